@@ -1,0 +1,14 @@
+pub mod Products
+pub mod Runs
+pub mod Fill
+pub mod Trip
+pub mod Next
+pub mod Placed
+pub mod Placing
+pub mod Ones
+pub mod Below
+pub mod Cut
+pub mod Marks
+pub mod Words
+pub mod Unpack
+pub mod Kept

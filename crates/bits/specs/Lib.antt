@@ -1,0 +1,3 @@
+-- Bits and tables, over any width and any list.
+pub mod Tables
+pub mod Bits

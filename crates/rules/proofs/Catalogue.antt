@@ -1,0 +1,31 @@
+-- The catalogue's own sense, computed over the whole table: its corners, counts and steps agree, no row is refused, no number stands twice.
+use mathlib.Core.Path.{_≡_, refl}
+use mathlib.Core.Bool.{Bool, true, not, _&&_}
+use mathlib.Core.List.{List, [], _∷_, map}
+use Prim.Native.Nat.{ℕ, _-_, _*_}
+use lib.Dec.{eqb}
+use lib.IntN.{natAbs, _-ℤ_}
+use Rattle.rules.specs.declared.{Entry.Entry}
+use Rattle.rules.specs.Table.{anyOf}
+use Rattle.rules.specs.Grid.{catalogue, gridFaults}
+use Rattle.rules.proofs.Computes.{computes}
+
+-- Ni − 1 steps of Di lead from Lo1 to Lo2, Nj − 1 steps of Dj from La1 to La2, and row 9 finds no fault
+sensible : Entry → Bool
+sensible e =
+    let g = e .grid in
+    eqb ((g .ni - 1) * g .di) (natAbs (g .lo2 .value -ℤ g .lo1 .value))
+    && eqb ((g .nj - 1) * g .dj) (natAbs (g .la2 .value -ℤ g .la1 .value))
+    && not (anyOf (gridFaults g))
+
+all-sensible : map sensible catalogue ≡ true ∷ true ∷ true ∷ true ∷ true ∷ true ∷ true ∷ []
+unfolding computes sensible
+all-sensible = refl
+
+numbers : map (λ e. e .number) catalogue ≡ 2 ∷ 3 ∷ 29 ∷ 30 ∷ 33 ∷ 34 ∷ 45 ∷ []
+unfolding computes
+numbers = refl
+
+points : map (λ e. e .grid .ni * e .grid .nj) catalogue ≡ 10512 ∷ 65160 ∷ 5365 ∷ 5365 ∷ 8326 ∷ 8326 ∷ 41760 ∷ []
+unfolding computes
+points = refl

@@ -1,0 +1,6 @@
+pub mod Computes
+pub mod Specimen
+pub mod Marked
+pub mod Replies
+pub mod Misreadings
+pub mod Catalogue

@@ -1,0 +1,117 @@
+-- Document 01, "GDS", the catalogue, and refusals 7 to 9.
+use Prim.Native.Nat.{ℕ, _*_, _%_}
+use mathlib.Core.Bool.{Bool, true, false, not, _&&_, cond}
+use mathlib.Core.List.{List, [], _∷_}
+use lib.Dec.{ltb, eqb}
+use lib.IntN.{ℤ, pos, negsuc}
+use lib.Signed.{ltZ}
+use Rattle.rules.specs.declared.{Signed.Signed, Part.Part, Grid.Grid, Entry.Entry, Found.Found, Found.the-variants.Nothing, Found.the-variants.Given}
+use Rattle.rules.specs.Bounds.{gdsLength, sideMost, pointsMost, latitudeMost, longitudeMost}
+use Rattle.rules.specs.Chart.{north}
+use Rattle.rules.specs.Numbers.{Field, field, laid, octet, number, signedAt, signedField, outside, beyond}
+
+-- "Ni 7-8; Nj 9-10; La1 11-13; Lo1 14-16; resolution flags 17; La2 18-20; Lo2 21-23; Di 24-25; Dj 26-27; scanning flags 28"
+unfoldable pub gridAt : List ℕ → ℕ → Grid
+gridAt s g = record {
+  ni = number s g 7 8;
+  nj = number s g 9 10;
+  la1 = signedAt s g 11 13;
+  lo1 = signedAt s g 14 16;
+  flags = octet s g 17;
+  la2 = signedAt s g 18 20;
+  lo2 = signedAt s g 21 23;
+  di = number s g 24 25;
+  dj = number s g 26 27;
+  scan = octet s g 28;
+}
+
+-- "length 1-3 is 32; octet 4 is 0; octet 5 is 255; octet 6 is 0; .. 29-32 reserved, .. written zero"
+unfoldable pub gridFields : Grid → List Field
+gridFields g =
+    field 3 gdsLength
+    ∷ field 1 0
+    ∷ field 1 255
+    ∷ field 1 0
+    ∷ field 2 (g .ni)
+    ∷ field 2 (g .nj)
+    ∷ signedField 3 (g .la1)
+    ∷ signedField 3 (g .lo1)
+    ∷ field 1 (g .flags)
+    ∷ signedField 3 (g .la2)
+    ∷ signedField 3 (g .lo2)
+    ∷ field 2 (g .di)
+    ∷ field 2 (g .dj)
+    ∷ field 1 (g .scan)
+    ∷ field 4 0
+    ∷ []
+
+unfoldable pub gdsOf : Grid → List ℕ
+gdsOf g = laid (gridFields g) []
+
+-- the catalogue: "resolution flags are 128, our own setting"
+abbrev entry : ℕ → ℕ → ℕ → ℤ → ℤ → ℤ → ℤ → ℕ → ℕ → ℕ → Entry
+entry n i j a b c d e f s = record {
+  number = n;
+  grid = record { ni = i; nj = j; la1 = record { value = a }; lo1 = record { value = b }; flags = 128; la2 = record { value = c }; lo2 = record { value = d }; di = e; dj = f; scan = s };
+}
+
+unfoldable pub catalogue : List Entry
+catalogue =
+    entry 2 144 73 (pos 90000) (pos 0) (negsuc 89999) (pos 357500) 2500 2500 0
+    ∷ entry 3 360 181 (pos 90000) (pos 0) (negsuc 89999) (pos 359000) 1000 1000 0
+    ∷ entry 29 145 37 (pos 0) (pos 0) (pos 90000) (pos 360000) 2500 2500 64
+    ∷ entry 30 145 37 (negsuc 89999) (pos 0) (pos 0) (pos 360000) 2500 2500 64
+    ∷ entry 33 181 46 (pos 0) (pos 0) (pos 90000) (pos 360000) 2000 2000 64
+    ∷ entry 34 181 46 (negsuc 89999) (pos 0) (pos 0) (pos 360000) 2000 2000 64
+    ∷ entry 45 288 145 (pos 90000) (pos 0) (negsuc 89999) (pos 358750) 1250 1250 0
+    ∷ []
+
+-- the first row of a number
+unfoldable pub lookup : List Entry → ℕ → Found
+lookup [] n = Nothing
+lookup (e ∷ es) n = cond (eqb (e .number) n) (Given (e .grid)) (lookup es n)
+
+-- "Without a GDS, PDS octet 7 picks from this catalogue .. With one, the GDS decides and octet 7 is not compared", of a PDS at place p
+unfoldable pub gridFrom : Found → List ℕ → ℕ → Found
+gridFrom (Given g) s p = Given g
+gridFrom Nothing s p = lookup catalogue (octet s p 7)
+
+-- 7: "no GDS, octet 7 not in the catalogue"
+abbrev pub gridMissing : Found → Bool
+gridMissing Nothing = true
+gridMissing (Given g) = false
+
+unfoldable pub noGrid : Grid
+noGrid =
+    let none : Signed = record { value = pos 0 } in
+    record { ni = 0; nj = 0; la1 = none; lo1 = none; flags = 0; la2 = none; lo2 = none; di = 0; dj = 0; scan = 0 }
+
+-- the grid; zeros where there is none, which 7 refuses
+abbrev pub theGrid : Found → Grid
+theGrid Nothing = noGrid
+theGrid (Given g) = g
+
+-- 8: "GDS length or octets 4 to 6 not as above"
+unfoldable pub gdsFaults : List ℕ → Part → List Bool
+gdsFaults s p = not (eqb (p .len) gdsLength) ∷ not (eqb (octet s (p .start) 4) 0) ∷ not (eqb (octet s (p .start) 5) 255) ∷ not (eqb (octet s (p .start) 6) 0) ∷ []
+
+-- "points n = Ni × Nj"
+abbrev pub pointsOf : Grid → ℕ
+pointsOf g = g .ni * g .nj
+
+-- "If Nj > 1, rows running north need La2 above La1, else La2 below La1; with Nj = 1 this is not tested"
+unfoldable pub scanBad : ℕ → ℕ → Signed → Signed → Bool
+scanBad nj scan la1 la2 = ltb 1 nj && not (cond (north scan) (ltZ (la1 .value) (la2 .value)) (ltZ (la2 .value) (la1 .value)))
+
+-- 9: "Ni, Nj, n, a latitude, a longitude or the scan test outside the rules"
+unfoldable pub gridFaults : Grid → List Bool
+gridFaults g =
+    outside 1 sideMost (g .ni)
+    ∷ outside 1 sideMost (g .nj)
+    ∷ outside 1 pointsMost (pointsOf g)
+    ∷ beyond latitudeMost (g .la1 .value)
+    ∷ beyond latitudeMost (g .la2 .value)
+    ∷ beyond longitudeMost (g .lo1 .value)
+    ∷ beyond longitudeMost (g .lo2 .value)
+    ∷ scanBad (g .nj) (g .scan) (g .la1) (g .la2)
+    ∷ []

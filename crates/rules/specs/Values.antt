@@ -1,0 +1,73 @@
+-- Document 01, "BDS" and refusals 11 and 12; "Numbers": what R stands for.
+use Prim.Native.Nat.{ℕ, _+_, _-_, _*_, _/_, _%_, _^_}
+use mathlib.Core.Bool.{Bool, not, _||_, cond}
+use mathlib.Core.List.{List, [], _∷_}
+use lib.Dec.{ltb, eqb}
+use lib.IntN.{ℤ, pos, negℤ}
+use lib.ListN.{length}
+use Rattle.rules.specs.declared.{Part.Part, Packing.Packing, Scale.Scale}
+use Rattle.rules.specs.Bounds.{bitsMost}
+use Rattle.bits.specs.Bits.{bitsIn, runs, octetsFor}
+use Rattle.rules.specs.Numbers.{field, laid, evenFrom, octet, number, signedAt, signedField}
+
+-- "octet 4 high half flags, low half unused bits; .. N in 11"
+unfoldable pub packingAt : List ℕ → ℕ → Packing
+packingAt s b = record { flags = octet s b 4 / 16; bits = octet s b 11 }
+
+-- "E 5-6; reference R 7-10"
+unfoldable pub scaleAt : List ℕ → ℕ → Scale
+scaleAt s b = record { e = signedAt s b 5 6; r = number s b 7 10 }
+
+-- "Flag bits 1, 2 and 4 are 0; bit 3 is carried": of the four, bit 3 is worth 2
+abbrev pub flagsBad : ℕ → Bool
+flagsBad flags = not (eqb flags 0 || eqb flags 2)
+
+-- 11: "BDS flag bit 1, 2 or 4 set, N over 24"
+unfoldable pub packingFaults : Packing → List Bool
+packingFaults p = flagsBad (p .flags) ∷ ltb bitsMost (p .bits) ∷ []
+
+-- 12: "With m present points, 8 × (L − 11) − unused = m × N"
+unfoldable pub lengthBad : List ℕ → Part → ℕ → Packing → Bool
+lengthBad s b m p = not (eqb (8 * (b .len - 11)) (m * p .bits + octet s (b .start) 4 % 16))
+
+-- "data from 12 .. Values are taken one after another": the m values
+unfoldable pub valuesAt : List ℕ → ℕ → ℕ → ℕ → List ℕ
+valuesAt s b bits m = runs (bitsIn 8 s) ((b + 11) * 8) bits m
+
+-- a data section of values, "m × N = 0: L = 12, unused 8", "Padding bits are .. written zero"
+unfoldable pub bdsOf : Packing → Scale → List ℕ → List ℕ
+bdsOf p c xs =
+    let t = length xs * p .bits in
+    let len = evenFrom (11 + octetsFor t) in
+    laid
+    (field 3 len
+    ∷ field 1 (p .flags * 16 + (8 * (len - 11) - t))
+    ∷ signedField 2 (c .e)
+    ∷ field 4 (c .r)
+    ∷ field 1 (p .bits)
+    ∷ [])
+    (runs (bitsIn (p .bits) xs) 0 8 (len - 11))
+
+-- "s 1 bit, A 7 bits, B 24 bits"
+abbrev pub sOf : ℕ → ℕ
+sOf r = r / 2 ^ 31
+
+abbrev pub aOf : ℕ → ℕ
+aOf r = r / 2 ^ 24 % 2 ^ 7
+
+abbrev pub bOf : ℕ → ℕ
+bOf r = r % 2 ^ 24
+
+-- "R = (−1)^s × B × 16^(A − 64) / 2^24": in size B × 16^A of these parts, since 16^64 × 2^24 = 16^70
+abbrev pub unit : ℕ
+unit = 16 ^ 70
+
+unfoldable pub sizeOf : ℕ → ℕ
+sizeOf r = bOf r * 16 ^ aOf r
+
+-- whether R is whole, and the whole number that it is
+unfoldable pub whole : ℕ → Bool
+whole r = eqb (sizeOf r % unit) 0
+
+unfoldable pub wholeOf : ℕ → ℤ
+wholeOf r = cond (eqb (sOf r) 0) (pos (sizeOf r / unit)) (negℤ (pos (sizeOf r / unit)))

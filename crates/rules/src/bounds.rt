@@ -1,0 +1,51 @@
+// The bounds of document 01 as code, beside their meaning in specs/Bounds. They stand nowhere else.
+
+// Octets in a message.
+pub const MESSAGE_LEAST: usize = 8;
+
+pub const MESSAGE_MOST: usize = 262144;
+
+// The least length of each section, and the most of a PDS (refusal 5).
+pub const PDS_LEAST: u32 = 28;
+
+pub const PDS_MOST: u32 = 1024;
+
+pub const GDS_LEAST: u32 = 32;
+
+pub const BMS_LEAST: u32 = 6;
+
+pub const BDS_LEAST: u32 = 12;
+
+// "GDS: length 1-3 is 32".
+pub const GDS_LENGTH: u32 = 32;
+
+// Ni, Nj, and the points n = Ni × Nj.
+pub const SIDE_MOST: u16 = 65534;
+
+pub const POINTS_MOST: u32 = 65536;
+
+// Magnitudes of a latitude and a longitude.
+pub const LATITUDE_MOST: i32 = 90000;
+
+pub const LONGITUDE_MOST: i32 = 360000;
+
+// Bits per value N.
+pub const BITS_MOST: u8 = 24;
+
+// E for display.
+pub const SHOWN_LEAST: i32 = -1022;
+
+pub const SHOWN_MOST: i32 = 1023;
+
+// The listing program: octets of a message, points that it lends room for.
+pub const LISTED_MOST: usize = 32768;
+
+pub const LISTED_ROOM: usize = 4096;
+
+// A source number and a whole R, in magnitude, and E in the checker and packer.
+pub const SOURCE_MOST: i32 = 8388607;
+
+pub const STEP_MOST: i32 = 24;
+
+// E as a field of a message, in magnitude.
+pub const EXPONENT_MOST: i32 = 32767;

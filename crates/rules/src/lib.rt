@@ -1,0 +1,145 @@
+// The records that every part of the codec shares, and, in specs/, what document 01 means. All records go by value; a refused answer
+// has zero in every other field.
+
+pub mod bounds;
+
+// A reply: 0 is acceptance, any other number stands in the table of refusals.
+pub struct Refusal {
+    pub number: u32,
+}
+
+// A field of a sign bit and a magnitude.
+pub struct Signed {
+    pub value: i32,
+}
+
+// A part of a slice: the place of its first octet, counted from 0, and how many octets it has.
+pub struct Part {
+    pub start: u32,
+    pub len: u32,
+}
+
+// The four sections between the indicator and the end. An absent one has length 0.
+pub struct Places {
+    pub pds: Part,
+    pub gds: Part,
+    pub bms: Part,
+    pub bds: Part,
+}
+
+// The reference time of a field.
+pub struct Moment {
+    pub year: u16,
+    pub month: u8,
+    pub day: u8,
+    pub hour: u8,
+    pub minute: u8,
+}
+
+// A latitude/longitude grid.
+pub struct Grid {
+    pub ni: u16,
+    pub nj: u16,
+    pub la1: Signed,
+    pub lo1: Signed,
+    pub flags: u8,
+    pub la2: Signed,
+    pub lo2: Signed,
+    pub di: u16,
+    pub dj: u16,
+    pub scan: u8,
+}
+
+// A row of the catalogue.
+pub struct Entry {
+    pub number: u8,
+    pub grid: Grid,
+}
+
+// A grid, or none.
+pub enum Found {
+    Nothing,
+    Given(Grid),
+}
+
+// The three ways to say which points are present: all are, by bits in the message, by the lent bitmap of a number.
+pub enum Bitmap {
+    Without,
+    Carried,
+    Stored(u16),
+}
+
+// How the values are packed: flags (the high half of BDS octet 4) and N.
+pub struct Packing {
+    pub flags: u8,
+    pub bits: u8,
+}
+
+// What the values stand for: E, and R's four octets.
+pub struct Scale {
+    pub e: Signed,
+    pub r: u32,
+}
+
+// What is read off a message before it is judged, whatever its octets are.
+pub struct Parsed {
+    pub places: Places,
+    pub found: Found,
+    pub grid: Grid,
+    pub points: u32,
+    pub bitmap: Bitmap,
+    pub packing: Packing,
+}
+
+// What a message says, but for its lists.
+pub struct Header {
+    pub refusal: Refusal,
+    pub places: Places,
+    pub time: Moment,
+    pub d: Signed,
+    pub grid: Grid,
+    pub points: u32,
+    pub bitmap: Bitmap,
+    pub present: u32,
+    pub packing: Packing,
+    pub scale: Scale,
+}
+
+// What the caller of the writer and the packer chooses: a grid where a GDS is wanted, the kind of bitmap, the packing.
+pub struct Form {
+    pub grid: Found,
+    pub bitmap: Bitmap,
+    pub packing: Packing,
+}
+
+// What writing answers: how many octets the message has.
+pub struct Written {
+    pub refusal: Refusal,
+    pub len: u32,
+}
+
+// R and 2^E as doubles.
+pub struct Display {
+    pub refusal: Refusal,
+    pub reference: f64,
+    pub step: f64,
+}
+
+// A grid point, numbered in message order from 0.
+pub struct GridPoint(pub u32);
+
+// A place of the chart: row 0 is north, column 0 is west.
+pub struct Spot {
+    pub row: u32,
+    pub column: u32,
+}
+
+pub enum Charted {
+    On(Spot),
+    Off,
+}
+
+pub enum Pointed {
+    At(GridPoint),
+    Off,
+}
