@@ -1,0 +1,124 @@
+-- Demand 3: the check says yes exactly when the message is taken, the source well formed, both agree, the scales are in range and each present point is near; each of the
+-- checker's rows there and back.
+use Prim.Native.Nat.{ℕ, _+_, _*_, _/_, _%_, _≤_, _<_}
+use mathlib.Core.Bool.{Bool, false, not}
+use mathlib.Core.Path.{_≡_, sym, subst, _∙_, ap}
+use mathlib.Core.List.{List, [], _∷_}
+use native.Mathlib.Omega.{arith}
+use native.Mathlib.Nat.{add-zero, div-add-mod', mul-mod-left, mul-le-mul-right, le-of-mul-le-mul-right}
+use borrow.Author.Tests.{ltb-false, le-ltb}
+use lib.Dec.{eqb, lit<}
+use lib.IntN.{ℤ, pos, natAbs}
+use lib.Signed.{ltZ}
+use Rattle.bits.proofs.Below.{none-below, no-below}
+use Rattle.rules.specs.declared.{Scale.Scale}
+use Rattle.rules.specs.Bounds.{sourceMost, stepMost}
+use Rattle.rules.specs.Table.{Row, row, refusal, anyOf}
+use Rattle.rules.specs.Bitmap.{Lent, valueOf}
+use Rattle.rules.specs.Values.{unit, sizeOf, whole, wholeOf}
+use Rattle.rules.specs.Reading.{layoutRows, gridRows, dataRows, parsedOf, earlierRows, messageTable, ownRefusal, pointsIn, presentIn, valuesIn, scaleIn, decimalIn}
+use Rattle.rules.specs.Checking.{Source, numberOf, presentOf, sourceFaults, decimalDiffers, sourceDiffers, scaleFaults, farFrom, pointOut, checkTable, checkOf}
+use Rattle.theorems.specs.Replies.{Clear}
+use Rattle.theorems.specs.Checks.{AtPresent, Agrees, InRange, Near, Passes, CheckExactly}
+use Rattle.theorems.proofs.Rows.{clear, clear-parts, accepts, taken-by, first-after, none-of, any-none, or-false, or-none, is-eq, not-eq}
+use Rattle.theorems.proofs.Judged.{rows}
+use Rattle.theorems.proofs.Whole.{ltZ-antisym, ltZ-irrefl, natural}
+use Rattle.theorems.proofs.Sources.{at-none, none-at, well-formed, formed-well}
+
+-- 15
+pub agrees : (s : List ℕ) (lent : Lent) (f : Source) → anyOf (sourceDiffers s lent f) ≡ false → Agrees s lent f
+unfolding sourceDiffers
+agrees s lent f e =
+    let h = none-of (sourceDiffers s lent f) e in
+    let d = or-false (ltZ (decimalIn s .value) (f .d)) (ltZ (f .d) (decimalIn s .value)) (h .1 .1 .0) in
+    record {
+      points = is-eq _ _ (h .0);
+      marks = λ i l. is-eq _ _ (none-below (λ i. not (eqb (presentIn s lent i) (presentOf f i))) (pointsIn s) (h .1 .0) i l);
+      d = ltZ-antisym (decimalIn s .value) (f .d) (d .0) (d .1);
+    }
+
+pub decimal-no : (a b : ℤ) → a ≡ b → decimalDiffers a b ≡ false
+decimal-no a b e =
+    let r = ltZ-irrefl b in
+    ap (λ (x : ℤ). decimalDiffers x b) e ∙ or-none (ltZ b b) (ltZ b b) r r
+
+agree : (s : List ℕ) (lent : Lent) (f : Source) → Agrees s lent f → anyOf (sourceDiffers s lent f) ≡ false
+unfolding sourceDiffers
+agree s lent f h = any-none (sourceDiffers s lent f) (
+  not-eq _ _ (h .points),
+  (
+    no-below (λ i. not (eqb (presentIn s lent i) (presentOf f i))) (pointsIn s) (λ i l. not-eq _ _ (h .marks i l)),
+    (decimal-no (decimalIn s .value) (f .d) (h .d), tt),
+  ),
+)
+
+-- 16: a size that is whole, and its bound
+in-parts : (u x most : ℕ) → 0 < u → x % u ≡ 0 → x ≤ most * u → (x ≡ x / u * u) × (x / u ≤ most)
+in-parts u x most p e l =
+    let q : x ≡ x / u * u = sym (sym (add-zero (x / u * u)) ∙ ap (λ (k : ℕ). x / u * u + k) (sym e) ∙ div-add-mod' x u) in
+    (q, le-of-mul-le-mul-right {m = x / u} {n = most} {k = u} (subst (λ (k : ℕ). k ≤ most * u) q l) p)
+
+pub in-range : (c : Scale) → anyOf (scaleFaults c) ≡ false → InRange c
+unfolding scaleFaults whole
+in-range c e =
+    let h = none-of (scaleFaults c) e in
+    let n = natural stepMost (c .e .value) (h .0) (h .1 .0) in
+    let p = in-parts unit (sizeOf (c .r)) sourceMost (lit< tt) (is-eq _ _ (h .1 .1 .0)) (ltb-false (sourceMost * unit) (sizeOf (c .r)) (h .1 .1 .1 .0)) in
+    record { e = natAbs (c .e .value); is = n .0; small = n .1; m = sizeOf (c .r) / unit; whole = p .0; bound = p .1 }
+
+range-in : (c : Scale) → InRange c → anyOf (scaleFaults c) ≡ false
+unfolding scaleFaults whole
+range-in c h = any-none (scaleFaults c) (
+  ap (λ (z : ℤ). ltZ z (pos 0)) (h .is) ∙ le-ltb (h .e) 0 (omega arith),
+  (
+    ap (λ (z : ℤ). ltZ (pos stepMost) z) (h .is) ∙ le-ltb stepMost (h .e) (h .small),
+    (
+      not-eq _ _ (ap (λ (x : ℕ). x % unit) (h .whole) ∙ mul-mod-left (h .m) unit),
+      (le-ltb (sourceMost * unit) (sizeOf (c .r)) (subst (λ (x : ℕ). x ≤ sourceMost * unit) (sym (h .whole)) (mul-le-mul-right unit (h .bound))), tt),
+    ),
+  ),
+)
+
+-- 17
+module _ (s : List ℕ) (lent : Lent) (f : Source) where
+  abbrev far : ℕ → Bool
+  far i = farFrom (numberOf f i) (wholeOf (scaleIn s .r)) (valueOf (valuesIn s lent) i) (natAbs (scaleIn s .e .value))
+
+  near-of : pointOut s lent f ≡ false → AtPresent f (Near s lent f)
+  unfolding pointOut farFrom
+  near-of e i l p = ltb-false _ _ (at-none f far e i l p)
+
+  of-near : AtPresent f (Near s lent f) → pointOut s lent f ≡ false
+  unfolding pointOut farFrom
+  of-near h = none-at f far (λ i l p. le-ltb _ _ (h i l p))
+
+  abbrev four : List Row
+  four = row 18 (anyOf (sourceFaults f)) ∷ row 15 (anyOf (sourceDiffers s lent f)) ∷ row 16 (anyOf (scaleFaults (scaleIn s))) ∷ row 17 (pointOut s lent f) ∷ []
+
+  through : checkOf s lent f ≡ refusal 0 → Clear (messageTable s lent) × Clear four
+  unfolding checkOf checkTable messageTable earlierRows layoutRows gridRows dataRows parsedOf
+  through e =
+      clear-parts (messageTable s lent) four
+      (clear (checkTable s lent f) (tt, (tt, (tt, (tt, (tt, (tt, (tt, (tt, (tt, (tt, (tt, (tt, (tt, (tt, (tt, (tt, tt)))))))))))))))) (taken-by _ e))
+
+  passes : checkOf s lent f ≡ refusal 0 → Passes s lent f
+  unfolding ownRefusal
+  passes e =
+      let h = through e in
+      let b = h .1 in
+      record {
+        taken = taken-by _ (accepts (messageTable s lent) (h .0));
+        source = well-formed f (b .0);
+        agrees = agrees s lent f (b .1 .0);
+        scale = in-range (scaleIn s) (b .1 .1 .0);
+        near = near-of (b .1 .1 .1 .0);
+      }
+
+  yes-to : Passes s lent f → checkOf s lent f ≡ refusal 0
+  unfolding checkOf checkTable
+  yes-to h =
+      first-after (messageTable s lent) four (rows s lent (h .taken))
+      ∙ accepts four (formed-well f (h .source), (agree s lent f (h .agrees), (range-in (scaleIn s) (h .scale), (of-near (h .near), tt))))
+
+pub check-exactly : CheckExactly
+check-exactly s lent f = (passes s lent f, yes-to s lent f)

@@ -1,0 +1,68 @@
+-- The reader's rows 1 to 12 as twelve named facts, there and back: nothing else looks at its table by position.
+use mathlib.Core.Bool.{false, _&&_, _||_}
+use mathlib.Core.Path.{_≡_}
+use mathlib.Core.List.{List, [], _∷_}
+use Prim.Native.Nat.{ℕ}
+use lib.Dec.{T, ltb}
+use lib.ListN.{length}
+use Rattle.rules.specs.Table.{row, refusal, accepted, anyOf}
+use Rattle.rules.specs.Places.{pdsStart, endStart, hasGrid, hasBitmap, placesOf, sizeBad, markBad, editionBad, totalFaults, placesFaults}
+use Rattle.rules.specs.Time.{timeFaults}
+use Rattle.rules.specs.Grid.{gridMissing, theGrid, gdsFaults, gridFaults}
+use Rattle.rules.specs.Bitmap.{Lent, bitmapFaults}
+use Rattle.rules.specs.Values.{packingFaults, lengthBad}
+use Rattle.rules.specs.Reading.{gridOf, pointsIn, bitmapIn, presentCount, packingIn, layoutRows, gridRows, dataRows, parsedOf, earlierRows, messageTable, ownRefusal, readTable, readRefusal}
+use Rattle.theorems.specs.Replies.{Clear}
+use Rattle.theorems.specs.Reads.{Taken}
+use Rattle.theorems.proofs.Rows.{clear, clear-parts, accepts, taken-by}
+
+pub record Judged (s : List ℕ) (lent : Lent) : Type 0 where
+  pub size : sizeBad s ≡ false
+  pub mark : markBad s ≡ false
+  pub edition : editionBad s ≡ false
+  pub total : anyOf (totalFaults s) ≡ false
+  pub places : anyOf (placesFaults (endStart s) (hasGrid s pdsStart) (hasBitmap s pdsStart) (placesOf s)) ≡ false
+  pub time : anyOf (timeFaults s pdsStart) ≡ false
+  pub found : gridMissing (gridOf s) ≡ false
+  pub gds : (hasGrid s pdsStart && anyOf (gdsFaults s (placesOf s .gds))) ≡ false
+  pub grid : anyOf (gridFaults (theGrid (gridOf s))) ≡ false
+  pub bitmap : anyOf (bitmapFaults s lent (placesOf s .bms) (bitmapIn s) (pointsIn s)) ≡ false
+  pub packing : anyOf (packingFaults (packingIn s)) ≡ false
+  pub length : lengthBad s (placesOf s .bds) (presentCount s lent) (packingIn s) ≡ false
+
+pub rows : (s : List ℕ) (lent : Lent) → Taken s lent → Clear (messageTable s lent)
+unfolding ownRefusal messageTable earlierRows layoutRows gridRows dataRows parsedOf
+rows s lent t = clear (messageTable s lent) (tt, (tt, (tt, (tt, (tt, (tt, (tt, (tt, (tt, (tt, (tt, (tt, tt)))))))))))) t
+
+-- what of a table that goes on after row 12 is accepted is taken
+pub read-taken : (s : List ℕ) (lent : Lent) (values marks : List ℕ) → T (accepted (readRefusal s lent values marks)) → Taken s lent
+unfolding ownRefusal readRefusal readTable messageTable earlierRows layoutRows gridRows dataRows parsedOf
+read-taken s lent values marks t =
+    let h = clear (readTable s lent values marks) (tt, (tt, (tt, (tt, (tt, (tt, (tt, (tt, (tt, (tt, (tt, (tt, (tt, tt))))))))))))) t in
+    let last = row 14 (ltb (length values) (pointsIn s) || ltb (length marks) (pointsIn s)) in
+    taken-by _ (accepts (messageTable s lent) (clear-parts (messageTable s lent) (last ∷ []) h .0))
+
+pub judged : (s : List ℕ) (lent : Lent) → Taken s lent → Judged s lent
+unfolding messageTable earlierRows layoutRows gridRows dataRows parsedOf
+judged s lent t =
+    let a = rows s lent t in
+    let b = a .1 .1 .1 .1 .1 .1 in
+    record {
+      size = a .0;
+      mark = a .1 .0;
+      edition = a .1 .1 .0;
+      total = a .1 .1 .1 .0;
+      places = a .1 .1 .1 .1 .0;
+      time = a .1 .1 .1 .1 .1 .0;
+      found = b .0;
+      gds = b .1 .0;
+      grid = b .1 .1 .0;
+      bitmap = b .1 .1 .1 .0;
+      packing = b .1 .1 .1 .1 .0;
+      length = b .1 .1 .1 .1 .1 .0;
+    }
+
+pub unjudged : (s : List ℕ) (lent : Lent) → Judged s lent → ownRefusal s lent ≡ refusal 0
+unfolding ownRefusal messageTable earlierRows layoutRows gridRows dataRows parsedOf
+unjudged s lent h = accepts (messageTable s lent)
+    (h .size, (h .mark, (h .edition, (h .total, (h .places, (h .time, (h .found, (h .gds, (h .grid, (h .bitmap, (h .packing, (h .length, tt))))))))))))

@@ -1,0 +1,186 @@
+-- What the parts are that the writer accepts: its eight rows as named facts, there and back, and what each leaves. Nothing else looks at its table by position.
+use Prim.Native.Nat.{ℕ, _^_, _≤_, _<_}
+use mathlib.Core.Bool.{Bool, true, false, not, _||_, _&&_}
+use mathlib.Core.Path.{_≡_, refl, sym, subst}
+use mathlib.Core.List.{List, _∷_}
+use mathlib.Core.Logic.{⊎-elim}
+use native.Mathlib.Omega.{arith}
+use native.Mathlib.Nat.{mul-le-mul}
+use borrow.Author.Tests.{ltb-false, leb-false, eqb-true, eq-eqb, not-false}
+use lib.Pow.{pow-pos}
+use lib.ListN.{length, List·getD-eq-default}
+use lib.Dec.{T, ltb, leb, eqb}
+use Rattle.bits.specs.Bits.{bitsIn}
+use Rattle.bits.proofs.Runs.{Bits, lt-or-ge}
+use Rattle.bits.proofs.Ones.{count-le}
+use Rattle.bits.proofs.Below.{none-below}
+use Rattle.rules.specs.declared.{Bitmap.Bitmap, Bitmap.the-variants.Without, Bitmap.the-variants.Carried, Bitmap.the-variants.Stored}
+use Rattle.rules.specs.Bounds.{pdsLeast, pdsMost, pointsMost, bitsMost, exponentMost}
+use Rattle.rules.specs.Numbers.{beyond}
+use Rattle.rules.specs.Table.{refusal, accepted, anyOf}
+use Rattle.rules.specs.Places.{hasGrid, hasBitmap}
+use Rattle.rules.specs.Time.{timeFaults}
+use Rattle.rules.specs.Grid.{gridMissing, theGrid, gridFaults, pointsOf}
+use Rattle.rules.specs.Bitmap.{Lent, bitmapGiven, markOf, valueOf, lentFaults}
+use Rattle.rules.specs.Points.{gathered}
+use Rattle.rules.specs.Values.{packingFaults}
+use Rattle.rules.specs.Writing.{Parts, gridFor, pointsFor, pdsFaults, listsFit, storedFaults, gridGiven, pointBad, differ, partsFaults, message, writeTable, writeRefusal}
+use Rattle.theorems.specs.Replies.{Clear}
+use Rattle.theorems.specs.Returns.{NumberFits}
+use Rattle.theorems.proofs.Rows.{NoneOf, clear, accepts, none-of, any-none, or-false, and-false, clash, both, is-eq, inside}
+use Rattle.theorems.proofs.Whole.{within}
+use Rattle.theorems.proofs.Laid.{Sec, whole-sec}
+use Rattle.theorems.proofs.Gathered.{length-gathered, wide-gathered}
+use Rattle.theorems.proofs.DataSection.{DataOk}
+use Rattle.theorems.proofs.BitmapSection.{MapOk}
+
+pub record Offer (w : Parts) (out : List ℕ) : Type 0 where
+  pub pds : anyOf (pdsFaults (w .pds)) ≡ false
+  pub time : anyOf (timeFaults (w .pds) 0) ≡ false
+  pub found : gridMissing (gridFor w) ≡ false
+  pub grid : anyOf (gridFaults (theGrid (gridFor w))) ≡ false
+  pub stored : anyOf (storedFaults (w .form .bitmap) (w .lent) (w .values) (w .marks) (pointsFor w)) ≡ false
+  pub packing : anyOf (beyond exponentMost (w .scale .e .value) ∷ packingFaults (w .form .packing)) ≡ false
+  pub parts : anyOf (partsFaults w) ≡ false
+  pub room : ltb (length out) (length (message w)) ≡ false
+
+pub rows : (w : Parts) (out : List ℕ) → T (accepted (writeRefusal w out)) → Clear (writeTable w out)
+unfolding writeRefusal writeTable
+rows w out t = clear (writeTable w out) (tt, (tt, (tt, (tt, (tt, (tt, (tt, (tt, tt)))))))) t
+
+pub offered : (w : Parts) (out : List ℕ) → T (accepted (writeRefusal w out)) → Offer w out
+unfolding writeTable
+offered w out t =
+    let a = rows w out t in
+    let b = a .1 .1 .1 .1 in
+    record { pds = a .0; time = a .1 .0; found = a .1 .1 .0; grid = a .1 .1 .1 .0; stored = b .0; packing = b .1 .0; parts = b .1 .1 .0; room = b .1 .1 .1 .0 }
+
+pub unoffered : (w : Parts) (out : List ℕ) → Offer w out → writeRefusal w out ≡ refusal 0
+unfolding writeRefusal writeTable
+unoffered w out h = accepts (writeTable w out) (h .pds, (h .time, (h .found, (h .grid, (h .stored, (h .packing, (h .parts, (h .room, tt))))))))
+
+same : (a b : Bool) → differ a b ≡ false → a ≡ b
+same true true e = refl
+same true false e = e
+same false true e = sym e
+same false false e = refl
+
+flags-small : (f : ℕ) (a b : Bool) → eqb f 0 ≡ a → eqb f 2 ≡ b → not (a || b) ≡ false → f < 16
+flags-small f true b p q e = omega (arith, eqb-true f 0 p)
+flags-small f false true p q e = omega (arith, eqb-true f 2 q)
+flags-small f false false p q e = clash true refl e
+
+-- what row 13 leaves of a point
+record PointOk (bitmap : Bool) (bits m v : ℕ) : Type 0 where
+  mark : m < 2
+  absent : m ≡ 0 → (bitmap ≡ true) × (v ≡ 0)
+  value : v < 2 ^ bits
+
+absent-ok : (bitmap : Bool) (mark value : ℕ) → (eqb mark 0 && (not bitmap || not (eqb value 0))) ≡ false → mark ≡ 0 → (bitmap ≡ true) × (value ≡ 0)
+absent-ok bitmap mark value e z =
+    let h = or-false (not bitmap) (not (eqb value 0)) (and-false (eqb mark 0) _ (eq-eqb mark 0 z) e) in
+    (not-false bitmap (h .0), is-eq value 0 (h .1))
+
+point-ok : (bitmap : Bool) (bits mark value : ℕ) → pointBad bitmap bits mark value ≡ false → PointOk bitmap bits mark value
+unfolding pointBad
+point-ok bitmap bits mark value e =
+    let h = or-false (ltb 1 mark || (eqb mark 0 && (not bitmap || not (eqb value 0)))) (leb (2 ^ bits) value) e in
+    let k = or-false (ltb 1 mark) (eqb mark 0 && (not bitmap || not (eqb value 0))) (h .0) in
+    record { mark = omega (arith, ltb-false 1 mark (k .0)); absent = absent-ok bitmap mark value (k .1); value = leb-false (2 ^ bits) value (h .1) }
+
+map-of : (m : Bitmap) (lent : Lent) (values marks : List ℕ) (n : ℕ) → NumberFits m → listsFit values marks n ≡ true → anyOf (storedFaults m lent values marks n) ≡ false
+    → ((i : ℕ) → i < n → (markOf marks i < 2) × (markOf marks i ≡ 0 → bitmapGiven m ≡ true)) → MapOk m lent (markOf marks) n
+unfolding storedFaults
+map-of Without lent values marks n f t e p = λ i l. one (markOf marks i) (p i l .0) (λ z. clash false (p i l .1 z) refl)
+  where
+    one : (x : ℕ) → x < 2 → (x ≡ 0 → ⊥) → x ≡ 1
+    one x l h = omega arith
+map-of Carried lent values marks n f t e p = tt
+map-of (Stored j) lent values marks n f t e p =
+    let h = none-of _ e in
+    let g = and-false (listsFit values marks n) _ t (h .0) in
+    (f, any-none (lentFaults lent j n) (h .1), λ i l. is-eq _ _ (none-below (λ i. not (eqb (bitsIn 8 (lent .octets) i) (markOf marks i))) n g i l))
+
+pub packing-none : (w : Parts) (out : List ℕ) → Offer w out → anyOf (packingFaults (w .form .packing)) ≡ false
+packing-none w out o = any-none (packingFaults (w .form .packing)) (none-of (beyond exponentMost (w .scale .e .value) ∷ packingFaults (w .form .packing)) (o .packing) .1)
+
+module _ (w : Parts) (out : List ℕ) (nf : NumberFits (w .form .bitmap)) (rf : w .scale .r < 2 ^ 32) (o : Offer w out) where
+  pub pds-sec : Sec true pdsLeast (w .pds)
+  unfolding pdsFaults
+  pds-sec =
+      let h = none-of _ (o .pds) in
+      whole-sec pdsLeast (w .pds) (is-eq _ _ (h .1 .1 .0)) (inside pdsLeast pdsMost (length (w .pds)) (h .1 .0) .0) (h .0)
+
+  pub pds-most : length (w .pds) ≤ pdsMost
+  unfolding pdsFaults
+  pds-most = inside pdsLeast pdsMost (length (w .pds)) (none-of _ (o .pds) .1 .0) .1
+
+  pub points-most : pointsFor w ≤ pointsMost
+  unfolding gridFaults pointsFor
+  points-most = inside 1 pointsMost (pointsOf (theGrid (gridFor w))) (none-of (gridFaults (theGrid (gridFor w))) (o .grid) .1 .1 .0) .1
+
+  pack-none : NoneOf (beyond exponentMost (w .scale .e .value) ∷ packingFaults (w .form .packing))
+  pack-none = none-of (beyond exponentMost (w .scale .e .value) ∷ packingFaults (w .form .packing)) (o .packing)
+
+  flags-lt : w .form .packing .flags < 16
+  unfolding packingFaults
+  flags-lt = flags-small (w .form .packing .flags) _ _ refl refl (pack-none .1 .0)
+
+  bits-most : w .form .packing .bits ≤ bitsMost
+  unfolding packingFaults
+  bits-most = ltb-false bitsMost (w .form .packing .bits) (pack-none .1 .1 .0)
+
+  fit : listsFit (w .values) (w .marks) (pointsFor w) ≡ true
+  unfolding partsFaults
+  fit = not-false (listsFit (w .values) (w .marks) (pointsFor w)) (none-of _ (o .parts) .0)
+
+  pub values-long : length (w .values) ≡ pointsFor w
+  unfolding listsFit
+  values-long = eqb-true _ _ (both (eqb (length (w .values)) (pointsFor w)) (eqb (length (w .marks)) (pointsFor w)) fit .0)
+
+  pub marks-long : length (w .marks) ≡ pointsFor w
+  unfolding listsFit
+  marks-long = eqb-true _ _ (both (eqb (length (w .values)) (pointsFor w)) (eqb (length (w .marks)) (pointsFor w)) fit .1)
+
+  point : (i : ℕ) → i < pointsFor w → PointOk (bitmapGiven (w .form .bitmap)) (w .form .packing .bits) (markOf (w .marks) i) (valueOf (w .values) i)
+  unfolding partsFaults
+  point i l = point-ok _ _ _ _ (none-below (λ i. pointBad (bitmapGiven (w .form .bitmap)) (w .form .packing .bits) (markOf (w .marks) i) (valueOf (w .values) i)) (pointsFor w) (none-of _ (o .parts) .1 .0) i l)
+
+  pub absent-zero : (i : ℕ) → i < pointsFor w → markOf (w .marks) i ≡ 0 → valueOf (w .values) i ≡ 0
+  absent-zero i l z = point i l .absent z .1
+
+  pub has-grid : hasGrid (w .pds) 0 ≡ gridGiven (w .form .grid)
+  unfolding partsFaults
+  has-grid = same _ _ (none-of _ (o .parts) .1 .1 .0)
+
+  pub has-bitmap : hasBitmap (w .pds) 0 ≡ bitmapGiven (w .form .bitmap)
+  unfolding partsFaults
+  has-bitmap = same _ _ (none-of _ (o .parts) .1 .1 .1 .0)
+
+  -- a list n long is 0 past its end
+  past : (xs : List ℕ) (top i : ℕ) → length xs ≡ pointsFor w → 0 < top → (i < pointsFor w → valueOf xs i < top) → valueOf xs i < top
+  past xs top i e p h = ⊎-elim h
+      (λ g. subst (λ (x : ℕ). x < top) (sym (List·getD-eq-default xs 0 (subst (λ (x : ℕ). x ≤ i) (sym e) g))) p)
+      (lt-or-ge i (pointsFor w))
+
+  pub mark-bits : Bits (markOf (w .marks))
+  mark-bits i = past (w .marks) 2 i marks-long (omega arith) (λ l. point i l .mark)
+
+  pub map-ok : MapOk (w .form .bitmap) (w .lent) (markOf (w .marks)) (pointsFor w)
+  map-ok = map-of (w .form .bitmap) (w .lent) (w .values) (w .marks) (pointsFor w) nf fit (o .stored) (λ i l. (point i l .mark, λ z. point i l .absent z .0))
+
+  pub data-ok : DataOk (w .form .packing) (w .scale) (gathered (markOf (w .marks)) (valueOf (w .values)) (pointsFor w))
+  data-ok =
+      let f = markOf (w .marks) in
+      let v = valueOf (w .values) in
+      let n = pointsFor w in
+      let bits = w .form .packing .bits in
+      let c : length (gathered f v n) ≤ pointsMost = omega (arith, length-gathered f mark-bits v n, count-le mark-bits 0 n, points-most) in
+      record {
+        flags = flags-lt;
+        bits = omega (arith, bits-most);
+        e = omega (arith, within exponentMost (w .scale .e .value) (pack-none .0));
+        r = rf;
+        few = mul-le-mul c bits-most;
+        wide = wide-gathered f mark-bits v bits (λ i. past (w .values) (2 ^ bits) i values-long (pow-pos bits) (λ l. point i l .value)) n;
+      }

@@ -1,0 +1,87 @@
+-- Demand 2 at every point: the value that reading hands out at a present point stands among the data by the count of ones before it, and is 0 at an absent one; from the definitions, and row 12 for the bound.
+use Prim.Native.Nat.{ℕ, _+_, _-_, _*_, _%_, _≤_, _<_}
+use mathlib.Core.Bool.{Bool, cond}
+use mathlib.Core.Path.{_≡_, _∙_, ap}
+use mathlib.Core.List.{List}
+use native.Mathlib.Omega.{arith}
+use borrow.Author.Tests.{lt-ltb, eq-eqb, ne-eqb}
+use lib.Dec.{eqb}
+use lib.ListN.{length}
+use Rattle.bits.specs.Bits.{bitsIn, run, count}
+use Rattle.bits.proofs.Runs.{next-le}
+use Rattle.bits.proofs.Trip.{getD-runs}
+use Rattle.rules.specs.Table.{accepted}
+use Rattle.rules.specs.Numbers.{octet}
+use Rattle.rules.specs.Places.{placesOf}
+use Rattle.rules.specs.Bitmap.{Lent, bitmapOctets}
+use Rattle.rules.specs.Points.{numbered, absent, outside, dataNumber, valueAt, scattered}
+use Rattle.rules.specs.Values.{lengthBad, valuesAt}
+use Rattle.rules.specs.Reading.{ownRefusal, bitmapIn, inForceIn, pointsIn, presentIn, presentCount, packingIn, valuesIn, marksIn, foundBy, foundIn, refusedBy, answerBy, headerOf, readRefusal, valuesAfter, marksAfter, numberingOf}
+use Rattle.theorems.specs.Reads.{Taken, ValueAtPoint, ReadKeeps, PresentCounted}
+use Rattle.theorems.proofs.Rows.{is-true, is-eq}
+use Rattle.theorems.proofs.Lists.{filled-at, filled-after}
+use Rattle.theorems.proofs.Judged.{judged, read-taken}
+use Rattle.theorems.proofs.BitmapSection.{present-bits}
+use Rattle.theorems.proofs.Gathered.{number-lt, value-there, value-away}
+
+module _ (s : List ℕ) (lent : Lent) (t : Taken s lent) (i : ℕ) (l : i < pointsIn s) where
+  abbrev p : ℕ → ℕ
+  p = presentIn s lent
+
+  abbrev N : ℕ
+  N = packingIn s .bits
+
+  abbrev xs : List ℕ
+  xs = valuesAt s (placesOf s .bds .start) N (presentCount s lent)
+
+  numbering : numberingOf s lent i ≡ cond (eqb (p i) 1) (numbered (count p 0 i)) absent
+  unfolding numberingOf dataNumber
+  numbering =
+      ap (λ (b : Bool). cond b (dataNumber p (pointsIn s) i) outside) (is-true (accepted (ownRefusal s lent)) t)
+      ∙ ap (λ (b : Bool). cond b (cond (eqb (p i) 1) (numbered (count p 0 i)) absent) outside) (lt-ltb i (pointsIn s) l)
+
+  bit : p i < 2
+  unfolding presentIn
+  bit = present-bits (bitmapIn s) (bitmapOctets s (lent .octets) (inForceIn s)) i
+
+  here : p i ≡ 1
+      → let k = count p 0 i in
+      (numberingOf s lent i ≡ numbered k) × (k < presentCount s lent) × (k * N + N ≤ 8 * (placesOf s .bds .len - 11))
+      × (valueAt p xs i ≡ run (bitsIn 8 s) ((placesOf s .bds .start + 11) * 8 + k * N) N)
+  unfolding presentCount valuesAt lengthBad
+  here one =
+      let k = count p 0 i in
+      let lt : k < presentCount s lent = number-lt p i (pointsIn s) one l in (
+        numbering ∙ ap (λ (b : Bool). cond b (numbered k) absent) (eq-eqb (p i) 1 one),
+        lt,
+        omega (arith, next-le k (presentCount s lent) N lt, is-eq (8 * (placesOf s .bds .len - 11)) (presentCount s lent * N + octet s (placesOf s .bds .start) 4 % 16) (judged s lent t .length)),
+        value-there p xs i one ∙ getD-runs (bitsIn 8 s) ((placesOf s .bds .start + 11) * 8) N (presentCount s lent) k lt,
+      )
+
+  away : p i ≡ 0 → (numberingOf s lent i ≡ absent) × (valueAt p xs i ≡ 0)
+  away none =
+      let not-one : p i ≡ 1 → ⊥ = λ e. omega arith in
+      (numbering ∙ ap (λ (b : Bool). cond b (numbered (count p 0 i)) absent) (ne-eqb (p i) 1 not-one), value-away p xs i not-one)
+
+pub value-at-point : ValueAtPoint
+unfolding valuesAfter marksAfter valuesIn marksIn scattered
+value-at-point s lent values marks t i l =
+    let r = readRefusal s lent values marks in
+    let own = read-taken s lent values marks t in
+    let v = filled-at r (valueAt (presentIn s lent) (xs s lent own i l)) (pointsIn s) values i t l in
+    record {
+      bit = bit s lent own i l;
+      mark = filled-at r (presentIn s lent) (pointsIn s) marks i t l;
+      here = λ e. let h = here s lent own i l e in (h .0, h .1, h .2, v ∙ h .3);
+      away = λ e. let h = away s lent own i l e in (h .0, v ∙ h .1);
+    }
+
+pub read-keeps : ReadKeeps
+unfolding valuesAfter marksAfter valuesIn marksIn scattered
+read-keeps s lent values marks t =
+    let r = readRefusal s lent values marks in
+    (filled-after r _ (pointsIn s) values t, filled-after r (presentIn s lent) (pointsIn s) marks t)
+
+pub present-counted : PresentCounted
+unfolding headerOf answerBy foundIn foundBy presentCount
+present-counted s lent t = ap (λ (b : Bool). cond b (foundIn s lent) (refusedBy (ownRefusal s lent)) .present) (is-true (accepted (ownRefusal s lent)) t)

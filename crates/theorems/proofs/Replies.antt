@@ -1,0 +1,94 @@
+-- Demand 1: a table gives the reply of its first row that applies, and no number but its rows', by induction on it; a refusal keeps every lent list and an accepted call
+-- writes its front alone, by the definition of `filled`; and what is said by equations is determined.
+use Prim.Native.Nat.{ℕ, _<_}
+use mathlib.Core.Bool.{Bool, true, false, cond}
+use mathlib.Core.Path.{_≡_, refl, sym, _∙_, ap}
+use mathlib.Core.Logic.{_⊎_, inl, inr}
+use mathlib.Core.List.{List, [], _∷_, _++_}
+use native.Mathlib.Omega.{arith}
+use borrow.Author.Tests.{eqb-true, eqb-false}
+use lib.Dec.{T}
+use lib.ListN.{length, take, drop}
+use lib.Seq.{take-append-seam, drop-append-seam}
+use Rattle.rules.specs.declared.{Refusal.Refusal}
+use Rattle.rules.specs.Table.{Row, given, refusal, accepted, firstOr, first, filled}
+use Rattle.rules.specs.Reading.{layoutRows, gridRows, dataRows, parsedOf, earlierRows, messageTable, ownRefusal, foundIn, refusedBy, answerBy, headerOf, readTable}
+use Rattle.rules.specs.Display.{displayTable}
+use Rattle.rules.specs.Writing.{lengthOf, writeTable}
+use Rattle.rules.specs.Checking.{checkTable}
+use Rattle.rules.specs.Packing.{packTable}
+use Rattle.theorems.specs.Replies.{Clear, Stops, RefusalFirst, numbers, Among, ReplyAmong, RowNumbers, TakenOrRefused, RefusalKeeps, AcceptedFills, ReplyDetermined, ResultDetermined}
+use Rattle.theorems.proofs.Rows.{is-true}
+
+on-top : (test : Bool) (r : Refusal) (rows : List Row) → (Clear rows × (first rows ≡ refusal 0)) ⊎ Stops rows (first rows)
+    → (Clear (given r test ∷ rows) × (cond test r (first rows) ≡ refusal 0)) ⊎ Stops (given r test ∷ rows) (cond test r (first rows))
+on-top true r rows h = inr (record { above = []; below = rows; clear = tt; here = refl })
+on-top false r rows (inl h) = inl ((refl, h .0), h .1)
+on-top false r rows (inr h) = inr (record { above = given r false ∷ h .above; below = h .below; clear = (refl, h .clear); here = ap (λ (x : List Row). given r false ∷ x) (h .here) })
+
+pub refusal-first : RefusalFirst
+unfolding first firstOr
+refusal-first [] = inl (tt, refl)
+refusal-first (given r test ∷ rows) = on-top test r rows (refusal-first rows)
+
+pub refusal-keeps : RefusalKeeps
+unfolding filled
+refusal-keeps r front lent e = ap (λ (t : Bool). cond t (front ++ drop (length front) lent) lent) e
+
+pub accepted-fills : AcceptedFills
+unfolding filled lengthOf
+accepted-fills r front lent t =
+    let e = is-true (accepted r) t in
+    let fill : filled r front lent ≡ front ++ drop (length front) lent = ap (λ (b : Bool). cond b (front ++ drop (length front) lent) lent) e in
+    record {
+      written = ap (take (length front)) fill ∙ take-append-seam front (drop (length front) lent);
+      kept = ap (drop (length front)) fill ∙ drop-append-seam front (drop (length front) lent);
+      len = ap (λ (b : Bool). cond b (length front) 0) e;
+    }
+
+-- so what a caller finds of the answered length is what was to be written
+pub handed-is : (r : Refusal) (m out : List ℕ) → T (accepted r) → take (lengthOf r m .len) (filled r m out) ≡ m
+handed-is r m out t =
+    let h = accepted-fills r m out t in
+    ap (λ (k : ℕ). take k (filled r m out)) (h .len) ∙ h .written
+
+among-on : (test : Bool) (r below : Refusal) (xs : List ℕ) → Among (below .number) (0 ∷ xs) → Among (cond test r below .number) (0 ∷ r .number ∷ xs)
+among-on true r below xs h = inr (inl refl)
+among-on false r below xs (inl e) = inl e
+among-on false r below xs (inr h) = inr (inr h)
+
+pub reply-among : ReplyAmong
+unfolding first firstOr
+reply-among [] = inl refl
+reply-among (given r test ∷ rows) = among-on test r (first rows) (numbers rows) (reply-among rows)
+
+pub row-numbers : RowNumbers
+unfolding displayTable readTable checkTable writeTable packTable messageTable earlierRows layoutRows gridRows dataRows parsedOf
+row-numbers = record {
+  reader = λ s lent. refl;
+  lists = λ s lent values marks. refl;
+  display = λ s lent. refl;
+  checker = λ s lent f. refl;
+  writer = λ w out. refl;
+  packer = λ pds form lent f out. refl;
+}
+
+pub taken-or-refused : TakenOrRefused
+unfolding headerOf answerBy
+taken-or-refused s lent = go (accepted (ownRefusal s lent)) refl
+  where
+    r : Refusal
+    r = ownRefusal s lent
+
+    positive : (n : ℕ) → (n ≡ 0 → ⊥) → 0 < n
+    positive n h = omega arith
+
+    go : (b : Bool) → accepted r ≡ b → ((r ≡ refusal 0) × (cond (accepted r) (foundIn s lent) (refusedBy r) ≡ foundIn s lent)) ⊎ ((0 < r .number) × (cond (accepted r) (foundIn s lent) (refusedBy r) ≡ refusedBy r))
+    go true e = inl ((λ i. record { number = eqb-true (r .number) 0 e i }), ap (λ (b : Bool). cond b (foundIn s lent) (refusedBy r)) e)
+    go false e = inr (positive (r .number) (eqb-false (r .number) 0 e), ap (λ (b : Bool). cond b (foundIn s lent) (refusedBy r)) e)
+
+pub reply-determined : ReplyDetermined
+reply-determined I A f i a b p q = p ∙ sym q
+
+pub result-determined : ResultDetermined
+result-determined I A f g i a b p q = λ j. record { reply = (p .0 ∙ sym (q .0)) j; lists = (p .1 ∙ sym (q .1)) j }

@@ -1,0 +1,118 @@
+-- Document 00, demand 3: when the check says yes, and that what the packer writes passes it; document 01, "Packing and checking": R, X and E.
+use Prim.Native.Nat.{ℕ, _*_, _^_, _<_, _≤_}
+use mathlib.Core.Path.{_≡_}
+use mathlib.Core.Logic.{_↔_}
+use mathlib.Core.List.{List}
+use lib.Dec.{T}
+use lib.IntN.{ℤ, pos, natAbs, _+ℤ_, _-ℤ_}
+use lib.ListN.{length}
+use Rattle.rules.specs.declared.{Scale.Scale, Form.Form}
+use Rattle.rules.specs.Bounds.{pointsMost, sourceMost, stepMost, flatSpread}
+use Rattle.rules.specs.Numbers.{decimalAt}
+use Rattle.rules.specs.Table.{refusal, accepted}
+use Rattle.rules.specs.Bitmap.{Lent, valueOf}
+use Rattle.rules.specs.Values.{bOf, sizeOf, unit, wholeOf}
+use Rattle.rules.specs.Reading.{pointsIn, presentIn, valuesIn, scaleIn, decimalIn}
+use Rattle.rules.specs.Writing.{writeRefusal}
+use Rattle.rules.specs.Checking.{Source, numberOf, presentOf, checkOf}
+use Rattle.rules.specs.Packing.{spellingOf, reference, above, stepped, exponent, packed, packRefusal, packOf, packedAfter}
+use Rattle.theorems.specs.Reads.{Taken}
+use Rattle.theorems.specs.Returns.{GridFits, NumberFits, handed}
+
+-- what holds at every present point of a source, and that it holds at one
+abbrev pub AtPresent : Source → (ℕ → Type 0) → Type 0
+AtPresent f P = (i : ℕ) → i < length (f .numbers) → presentOf f i ≡ 1 → P i
+
+pub record SomePresent (f : Source) (P : ℕ → Type 0) : Type 0 where
+  pub at : ℕ
+  pub below : at < length (f .numbers)
+  pub here : presentOf f at ≡ 1
+  pub holds : P at
+
+-- "the source is well formed": not what 18 refuses
+pub record WellFormed (f : Source) : Type 0 where
+  pub lists : length (f .numbers) ≡ length (f .marks)
+  pub some : 1 ≤ length (f .numbers)
+  pub most : length (f .numbers) ≤ pointsMost
+  pub marks : (i : ℕ) → i < length (f .numbers) → presentOf f i ≤ 1
+  pub bound : AtPresent f (λ i. natAbs (numberOf f i) ≤ sourceMost)
+
+-- "decimal scale, point count and present points agree"
+pub record Agrees (s : List ℕ) (lent : Lent) (f : Source) : Type 0 where
+  pub points : length (f .numbers) ≡ pointsIn s
+  pub marks : (i : ℕ) → i < pointsIn s → presentIn s lent i ≡ presentOf f i
+  pub d : decimalIn s .value ≡ f .d
+
+-- "the reference value and binary scale lie in our stated ranges": E is e, from 0 to 24, and R is whole, in size m of at most 8,388,607
+pub record InRange (c : Scale) : Type 0 where
+  pub e : ℕ
+  pub is : c .e .value ≡ pos e
+  pub small : e ≤ stepMost
+  pub m : ℕ
+  pub whole : sizeOf (c .r) ≡ m * unit
+  pub bound : m ≤ sourceMost
+
+-- "every present source number is within half a binary step of its unpacked value": 2 × |V − R − X × 2^E| ≤ 2^E
+abbrev pub Near : List ℕ → Lent → Source → ℕ → Type 0
+Near s lent f i =
+    let e = natAbs (scaleIn s .e .value) in
+    2 * natAbs (numberOf f i -ℤ wholeOf (scaleIn s .r) -ℤ pos (valueOf (valuesIn s lent) i * 2 ^ e)) ≤ 2 ^ e
+
+pub record Passes (s : List ℕ) (lent : Lent) (f : Source) : Type 0 where
+  pub taken : Taken s lent
+  pub source : WellFormed f
+  pub agrees : Agrees s lent f
+  pub scale : InRange (scaleIn s)
+  pub near : AtPresent f (Near s lent f)
+
+-- "It says yes exactly when .."
+abbrev pub CheckExactly : Type 0
+CheckExactly = (s : List ℕ) (lent : Lent) (f : Source) → (checkOf s lent f ≡ refusal 0) ↔ Passes s lent f
+
+-- "Whenever our packer isn't refused, the message it writes passes that check against its own source and stored bitmap"
+abbrev pub PackedPasses : Type 0
+PackedPasses =
+    (pds : List ℕ) (form : Form) (lent : Lent) (f : Source) (out : List ℕ) → GridFits (form .grid) → NumberFits (form .bitmap)
+    → T (accepted (packRefusal pds form lent f out)) → checkOf (handed (packOf pds form lent f out) (packedAfter pds form lent f out)) lent f ≡ refusal 0
+
+-- "Demand 3 alone would allow a packer that always refuses": it accepts exactly when the source is well formed, D agrees, a step fits, and the writer accepts what it would write
+pub record Packable (pds : List ℕ) (form : Form) (lent : Lent) (f : Source) (out : List ℕ) : Type 0 where
+  pub source : WellFormed f
+  pub decimal : decimalAt pds 0 .value ≡ f .d
+  pub spread : form .packing .bits ≡ 0 → AtPresent f (λ i. above f i < flatSpread)
+  pub written : T (accepted (writeRefusal (packed pds form lent f) out))
+
+abbrev pub PackExactly : Type 0
+PackExactly = (pds : List ℕ) (form : Form) (lent : Lent) (f : Source) (out : List ℕ) → T (accepted (packRefusal pds form lent f out)) ↔ Packable pds form lent f out
+
+-- "R is the least present V": each present V is R and r = V − R more, and one of them is R; "No present point: R = 0"
+pub record Referred (f : Source) : Type 0 where
+  pub over : AtPresent f (λ i. numberOf f i ≡ reference f +ℤ pos (above f i))
+  pub one : SomePresent f (λ i. Unit {0}) → SomePresent f (λ i. numberOf f i ≡ reference f)
+  pub none : ((i : ℕ) → i < length (f .numbers) → presentOf f i ≡ 0) → reference f ≡ pos 0
+
+abbrev pub LeastReference : Type 0
+LeastReference = (f : Source) → WellFormed f → Referred f
+
+-- "with leading hex digit not zero, and zero as 32 zero bits": the spelling stands for the number
+pub record Spells (z : ℤ) (r : ℕ) : Type 0 where
+  pub whole : sizeOf r ≡ natAbs z * unit
+  pub is : wholeOf r ≡ z
+  pub fits : r < 2 ^ 32
+  pub lead : 0 < natAbs z → 2 ^ 20 ≤ bOf r
+  pub zero : natAbs z ≡ 0 → r ≡ 0
+
+abbrev pub SpelledExactly : Type 0
+SpelledExactly = (z : ℤ) → natAbs z ≤ sourceMost → Spells z (spellingOf z)
+
+-- with the step 2^e "all X are below 2^N"
+abbrev pub Fits : Source → ℕ → ℕ → Type 0
+Fits f bits e = AtPresent f (λ i. stepped e (above f i) < 2 ^ bits)
+
+-- "E is the least of 0 to 24 for which all X are below 2^N"; "No present point: .. E = 0"
+abbrev pub LeastStep : Type 0
+LeastStep = (f : Source) (bits e : ℕ) → e ≤ stepMost → (exponent f bits ≡ e) ↔ (Fits f bits e × ((k : ℕ) → k < e → Fits f bits k → ⊥))
+
+-- "For N = 0, 19 is given exactly when the spread is 8,388,608 or more"; for another N never
+abbrev pub NoStepFits : Type 0
+NoStepFits = (f : Source) (bits : ℕ) → WellFormed f → (stepMost < exponent f bits) ↔ ((bits ≡ 0) × SomePresent f (λ i. flatSpread ≤ above f i))

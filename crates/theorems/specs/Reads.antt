@@ -1,0 +1,121 @@
+-- Document 00, demand 2: "Reading gives exactly what GRIB Edition 1 defines: sections that tile the message, packed integers, present points,
+-- scales, and the row and column of each grid point".
+use Prim.Native.Nat.{ℕ, _+_, _-_, _*_, _^_, _<_, _≤_}
+use mathlib.Core.Path.{_≡_}
+use mathlib.Core.Logic.{_↔_}
+use mathlib.Core.Bool.{false, cond}
+use mathlib.Core.List.{List, map}
+use lib.Dec.{T, eqb}
+use lib.IntN.{pos, negsuc}
+use lib.ListN.{length, take, drop}
+use lib.Ieee.{binary64, ofBits}
+use lib.Ieee.Exact.{HasValue}
+use Rattle.bits.specs.Bits.{bitsIn, run, count}
+use Rattle.rules.specs.declared.{GridPoint.GridPoint, Spot.Spot, Charted.the-variants.On, Pointed.the-variants.At}
+use Rattle.rules.specs.Bounds.{pdsLeast, gdsLeast, bmsLeast, bdsLeast}
+use Rattle.rules.specs.Numbers.{joined, decimalAt}
+use Rattle.rules.specs.Table.{refusal, accepted}
+use Rattle.rules.specs.Places.{octetsOf, after, pdsStart, hasGrid, hasBitmap, placesOf, sectionsOf}
+use Rattle.rules.specs.Time.{momentAt}
+use Rattle.rules.specs.Grid.{theGrid}
+use Rattle.rules.specs.Chart.{west, north, byColumn, spotOf, pointOf, charted, pointed}
+use Rattle.rules.specs.Bitmap.{Lent, markOf, valueOf}
+use Rattle.rules.specs.Points.{numbered, absent}
+use Rattle.rules.specs.Values.{sOf, bOf, sizeOf, unit}
+use Rattle.rules.specs.Reading.{ownRefusal, inForceIn, pointsIn, presentIn, presentCount, packingIn, headerOf, readRefusal, readOf, valuesAfter, marksAfter, numberingOf}
+use Rattle.rules.specs.Writing.{Parts, gridFor, pointsFor}
+use Rattle.rules.specs.RoundTrip.{partsIn}
+use Rattle.rules.specs.Display.{shownReference, shownStep}
+
+-- the message is taken: its own refusals 1 to 12 give 0
+abbrev pub Taken : List ℕ → Lent → Type 0
+Taken s lent = T (accepted (ownRefusal s lent))
+
+-- "sections that tile the message"
+abbrev pub SectionsTile : Type 0
+SectionsTile = (s : List ℕ) (lent : Lent) → Taken s lent → joined (map (octetsOf s) (sectionsOf s)) ≡ s
+
+-- every fixed field of a taken message lies in its section: no answer leans on the 0 past the end, nor on a difference cut at 0
+pub record Inside (s : List ℕ) : Type 0 where
+  pub pds : pdsLeast ≤ placesOf s .pds .len
+  pub gds : T (hasGrid s pdsStart) → gdsLeast ≤ placesOf s .gds .len
+  pub bms : T (hasBitmap s pdsStart) → bmsLeast ≤ placesOf s .bms .len
+  pub bds : bdsLeast ≤ placesOf s .bds .len
+  pub end : after (placesOf s .bds) + 4 ≡ length s
+
+abbrev pub ReadsInside : Type 0
+ReadsInside = (s : List ℕ) (lent : Lent) → Taken s lent → Inside s
+
+-- and so do the octets that hold the bitmap in force, in the slice they are part of
+abbrev pub BitmapInside : Type 0
+BitmapInside = (s : List ℕ) (lent : Lent) → Taken s lent → after (inForceIn s .part) ≤ length (cond (inForceIn s .stored) (lent .octets) s)
+
+-- of a point: "A present grid point's data number is the count of ones before it in the bitmap", its value stands among the data by that number, inside the data section;
+-- "An absent point has none", and "0 and 0 at absent points"
+pub record ReadAt (s : List ℕ) (lent : Lent) (values marks : List ℕ) (i : ℕ) : Type 0 where
+  pub bit : presentIn s lent i < 2
+  pub mark : markOf (marksAfter s lent values marks) i ≡ presentIn s lent i
+  pub here : presentIn s lent i ≡ 1
+      → let k = count (presentIn s lent) 0 i in let bits = packingIn s .bits in
+      (numberingOf s lent i ≡ numbered k)
+      × (k < presentCount s lent)
+      × (k * bits + bits ≤ 8 * (placesOf s .bds .len - 11))
+      × (valueOf (valuesAfter s lent values marks) i ≡ run (bitsIn 8 s) ((placesOf s .bds .start + 11) * 8 + k * bits) bits)
+  pub away : presentIn s lent i ≡ 0 → (numberingOf s lent i ≡ absent) × (valueOf (valuesAfter s lent values marks) i ≡ 0)
+
+abbrev pub ValueAtPoint : Type 0
+ValueAtPoint = (s : List ℕ) (lent : Lent) (values marks : List ℕ) → T (accepted (readRefusal s lent values marks)) → (i : ℕ) → i < pointsIn s → ReadAt s lent values marks i
+
+-- "elements after n stay"
+abbrev pub ReadKeeps : Type 0
+ReadKeeps = (s : List ℕ) (lent : Lent) (values marks : List ℕ) → T (accepted (readRefusal s lent values marks))
+    → (drop (pointsIn s) (valuesAfter s lent values marks) ≡ drop (pointsIn s) values) × (drop (pointsIn s) (marksAfter s lent values marks) ≡ drop (pointsIn s) marks)
+
+-- "packed integers, present points, scales": what reading into lent lists hands out of a message is the parts w, field by field
+pub record Tells (s : List ℕ) (lent : Lent) (values marks : List ℕ) (w : Parts) : Type 0 where
+  pub refusal : readOf s lent values marks .refusal ≡ refusal 0
+  pub pds : octetsOf s (readOf s lent values marks .places .pds) ≡ w .pds
+  pub time : readOf s lent values marks .time ≡ momentAt (w .pds) 0
+  pub d : readOf s lent values marks .d ≡ decimalAt (w .pds) 0
+  pub grid : readOf s lent values marks .grid ≡ theGrid (gridFor w)
+  pub points : readOf s lent values marks .points ≡ pointsFor w
+  pub bitmap : readOf s lent values marks .bitmap ≡ w .form .bitmap
+  pub present : readOf s lent values marks .present ≡ count (markOf (w .marks)) 0 (pointsFor w)
+  pub packing : readOf s lent values marks .packing ≡ w .form .packing
+  pub scale : readOf s lent values marks .scale ≡ w .scale
+  pub each : take (pointsFor w) (valuesAfter s lent values marks) ≡ w .values
+  pub which : take (pointsFor w) (marksAfter s lent values marks) ≡ w .marks
+
+-- of any taken message, with room for its points: the parts by which the round trips speak of it
+abbrev pub ReadTells : Type 0
+ReadTells = (s : List ℕ) (lent : Lent) (values marks : List ℕ) → Taken s lent → pointsIn s ≤ length values → pointsIn s ≤ length marks → Tells s lent values marks (partsIn s lent)
+
+-- "One that invents the present count: it equals the bitmap's ones"
+abbrev pub PresentCounted : Type 0
+PresentCounted = (s : List ℕ) (lent : Lent) → Taken s lent → headerOf s lent .present ≡ count (presentIn s lent) 0 (pointsIn s)
+
+-- "The chart's row 0 is north and column 0 is west, by these flags": point i of scanned row j, counted in the order of bit 3, is drawn in row j, or from the other end where
+-- bit 2 says that rows run north, and in column i, or from the other end where bit 1 says that columns run west
+abbrev pub ChartDrawn : Type 0
+ChartDrawn =
+    (ni nj scan j i : ℕ) → j < nj → i < ni
+    → spotOf ni nj scan (cond (byColumn scan) (i * nj + j) (j * ni + i)) ≡ record { row = cond (north scan) (nj - 1 - j) j; column = cond (west scan) (ni - 1 - i) i }
+
+-- "the row and column of each grid point": place and point determine each other on every grid, whatever its flags
+abbrev pub PlacePoint : Type 0
+PlacePoint =
+    (ni nj scan : ℕ)
+    → ((k : ℕ) → k < ni * nj → (spotOf ni nj scan k .row < nj) × (spotOf ni nj scan k .column < ni) × (pointOf ni nj scan (spotOf ni nj scan k) ≡ k))
+    × ((c : Spot) → c .row < nj → c .column < ni → (pointOf ni nj scan c < ni * nj) × (spotOf ni nj scan (pointOf ni nj scan c) ≡ c))
+
+-- and so as they are answered
+abbrev pub PlacePointAnswers : Type 0
+PlacePointAnswers = (ni nj scan : ℕ) (k : GridPoint) (c : Spot) → (charted ni nj scan k ≡ On c) ↔ (pointed ni nj scan c ≡ At k)
+
+-- "IEEE doubles of exactly those values": R in size sizeOf r / 16^70 with its sign, and 2^E. "R with B = 0 gives all bits zero"
+abbrev pub ShownExactly : Type 0
+ShownExactly =
+    ((r : ℕ) → r < 2 ^ 32 → 0 < bOf r → HasValue (shownReference r) (eqb (sOf r) 1) (sizeOf r) unit)
+    × ((r : ℕ) → bOf r ≡ 0 → shownReference r ≡ ofBits binary64 0)
+    × ((e : ℕ) → e ≤ 1023 → HasValue (shownStep (pos e)) false (2 ^ e) 1)
+    × ((e : ℕ) → e < 1022 → HasValue (shownStep (negsuc e)) false 1 (2 ^ (e + 1)))

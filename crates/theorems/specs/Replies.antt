@@ -1,0 +1,92 @@
+-- Document 00, demand 1, and document 01, "How tight the contracts are": every input gets one definite reply, and a refusal changes nothing.
+use Prim.Native.Nat.{ℕ, _<_}
+use mathlib.Core.Path.{_≡_}
+use mathlib.Core.Logic.{_⊎_}
+use mathlib.Core.Bool.{true, false}
+use mathlib.Core.List.{List, [], _∷_, _++_}
+use lib.Dec.{T}
+use lib.ListN.{length, take, drop}
+use Rattle.rules.specs.declared.{Refusal.Refusal, Form.Form}
+use Rattle.rules.specs.Table.{Row, given, refusal, accepted, first, filled}
+use Rattle.rules.specs.Bitmap.{Lent}
+use Rattle.rules.specs.Reading.{messageTable, ownRefusal, foundIn, refusedBy, headerOf, readTable}
+use Rattle.rules.specs.Display.{displayTable}
+use Rattle.rules.specs.Writing.{Parts, writeTable, lengthOf}
+use Rattle.rules.specs.Checking.{Source, checkTable}
+use Rattle.rules.specs.Packing.{packed, packTable}
+
+-- no row of a table applies
+abbrev pub Clear : List Row → Type 0
+Clear [] = Unit
+Clear (given r test ∷ rows) = (test ≡ false) × Clear rows
+
+-- r is the reply of the first row that applies
+pub record Stops (rows : List Row) (r : Refusal) : Type 0 where
+  pub above : List Row
+  pub below : List Row
+  pub clear : Clear above
+  pub here : rows ≡ above ++ (given r true ∷ below)
+
+-- "The first that applies in number order is given": of any table whose rows are in that order. "0 is acceptance"
+abbrev pub RefusalFirst : Type 0
+RefusalFirst = (rows : List Row) → (Clear rows × (first rows ≡ refusal 0)) ⊎ Stops rows (first rows)
+
+-- the numbers of a table's rows; one of a list of numbers
+abbrev pub numbers : List Row → List ℕ
+numbers [] = []
+numbers (given r test ∷ rows) = r .number ∷ numbers rows
+
+abbrev pub Among : ℕ → List ℕ → Type 0
+Among n [] = ⊥
+Among n (x ∷ xs) = (n ≡ x) ⊎ Among n xs
+
+-- "refused with a number fixed by the rules": acceptance, or the number of one of the rows
+abbrev pub ReplyAmong : Type 0
+ReplyAmong = (rows : List Row) → Among (first rows .number) (0 ∷ numbers rows)
+
+-- the reader's rows are 1 to 12; "Checker: 1 to 12, then 18, 15, 16, 17"; "The writer never gives 1 to 4, 8 or 12"; "Packer: 5, 18, 15 .., 11, 19, then the rest of the writer's"
+pub record RowNumbers : Type 0 where
+  pub reader : (s : List ℕ) (lent : Lent) → numbers (messageTable s lent) ≡ 1 ∷ 2 ∷ 3 ∷ 4 ∷ 5 ∷ 6 ∷ 7 ∷ 8 ∷ 9 ∷ 10 ∷ 11 ∷ 12 ∷ []
+  pub lists : (s : List ℕ) (lent : Lent) (values marks : List ℕ) → numbers (readTable s lent values marks) ≡ numbers (messageTable s lent) ++ (14 ∷ [])
+  pub display : (s : List ℕ) (lent : Lent) → numbers (displayTable s lent) ≡ numbers (messageTable s lent) ++ (16 ∷ [])
+  pub checker : (s : List ℕ) (lent : Lent) (f : Source) → numbers (checkTable s lent f) ≡ numbers (messageTable s lent) ++ (18 ∷ 15 ∷ 16 ∷ 17 ∷ [])
+  pub writer : (w : Parts) (out : List ℕ) → numbers (writeTable w out) ≡ 5 ∷ 6 ∷ 7 ∷ 9 ∷ 10 ∷ 11 ∷ 13 ∷ 14 ∷ []
+  pub packer : (pds : List ℕ) (form : Form) (lent : Lent) (f : Source) (out : List ℕ) → numbers (packTable pds form lent f out) ≡ 5 ∷ 18 ∷ 15 ∷ 11 ∷ 19 ∷ numbers (writeTable (packed pds form lent f) out)
+
+-- "A message is either taken whole or refused with a number", "with all counts and fields zero"
+abbrev pub TakenOrRefused : Type 0
+TakenOrRefused = (s : List ℕ) (lent : Lent)
+    → ((ownRefusal s lent ≡ refusal 0) × (headerOf s lent ≡ foundIn s lent)) ⊎ ((0 < ownRefusal s lent .number) × (headerOf s lent ≡ refusedBy (ownRefusal s lent)))
+
+-- "and no lent element changes", whatever would have been written
+abbrev pub RefusalKeeps : Type 0
+RefusalKeeps = (r : Refusal) (front lent : List ℕ) → accepted r ≡ false → filled r front lent ≡ lent
+
+-- "elements after n stay", "Writing fills the message's octets; later ones stay": of an accepted call the front of a lent list is what was to be written, and the rest is as it was
+pub record Filled (r : Refusal) (front lent : List ℕ) : Type 0 where
+  pub written : take (length front) (filled r front lent) ≡ front
+  pub kept : drop (length front) (filled r front lent) ≡ drop (length front) lent
+  pub len : lengthOf r front .len ≡ length front
+
+abbrev pub AcceptedFills : Type 0
+AcceptedFills = (r : Refusal) (front lent : List ℕ) → T (accepted r) → Filled r front lent
+
+-- "any two results it allows are proved identical": of what a contract allows there is at most one
+abbrev pub Determined : {A : Type 0} → (A → Type 0) → Type 0
+Determined {A} allows = (a b : A) → allows a → allows b → a ≡ b
+
+-- what a call gives back: its reply, and the lists lent to it as they are afterwards
+pub record Result (A : Type 0) : Type 0 where
+  pub reply : A
+  pub lists : List (List ℕ)
+
+-- a contract that says by an equation each what the reply and the lists are
+abbrev pub Allows : {A : Type 0} → A → List (List ℕ) → Result A → Type 0
+Allows reply lists r = (r .reply ≡ reply) × (r .lists ≡ lists)
+
+-- whatever function of the inputs the reply is, and whatever the lists are
+abbrev pub ReplyDetermined : Type 1
+ReplyDetermined = (I A : Type 0) (f : I → A) (i : I) → Determined (λ (r : A). r ≡ f i)
+
+abbrev pub ResultDetermined : Type 1
+ResultDetermined = (I A : Type 0) (f : I → A) (g : I → List (List ℕ)) (i : I) → Determined (Allows (f i) (g i))

@@ -1,0 +1,68 @@
+-- Document 00, demand 2: "Writing gives a message that reads back to the same parts", and "Reading and then writing gives the same octets when ..".
+use Prim.Native.Nat.{ℕ, _^_, _<_, _≤_}
+use mathlib.Core.Path.{_≡_}
+use mathlib.Core.Logic.{_↔_}
+use mathlib.Core.Bool.{Bool}
+use mathlib.Core.List.{List, [], _∷_}
+use lib.Dec.{T, eqb}
+use lib.ListN.{length, getD, take}
+use Rattle.rules.specs.declared.{Found.Found, Found.the-variants.Nothing, Found.the-variants.Given, Bitmap.Bitmap, Bitmap.the-variants.Without, Bitmap.the-variants.Carried, Bitmap.the-variants.Stored, Written.Written}
+use Rattle.rules.specs.Table.{accepted}
+use Rattle.rules.specs.Bitmap.{Lent}
+use Rattle.rules.specs.Writing.{Parts, pointsFor, message, writeRefusal, writeOf, outputAfter}
+use Rattle.rules.specs.RoundTrip.{partsIn, stains, canonical}
+use Rattle.theorems.specs.Reads.{Taken, Tells}
+
+-- what the types of the code's parameters hold by themselves
+abbrev pub Below : ℕ → List ℕ → Type 0
+Below b s = (i : ℕ) → getD s i 0 < b
+
+abbrev pub GridFits : Found → Type 0
+GridFits Nothing = Unit {0}
+GridFits (Given g) = (g .ni < 2 ^ 16) × (g .nj < 2 ^ 16) × (g .flags < 2 ^ 8) × (g .di < 2 ^ 16) × (g .dj < 2 ^ 16) × (g .scan < 2 ^ 8)
+
+abbrev pub NumberFits : Bitmap → Type 0
+NumberFits Without = Unit {0}
+NumberFits Carried = Unit {0}
+NumberFits (Stored number) = number < 2 ^ 16
+
+-- what a caller finds in the lent output: the octets of the length that is answered
+abbrev pub handed : Written → List ℕ → List ℕ
+handed answer out = take (answer .len) out
+
+-- s reads back to the parts w: it is taken, its parts are w, and reading it into lists with room hands out w
+pub record Returned (w : Parts) (s : List ℕ) : Type 0 where
+  pub taken : Taken s (w .lent)
+  pub parts : partsIn s (w .lent) ≡ w
+  pub tells : (values marks : List ℕ) → pointsFor w ≤ length values → pointsFor w ≤ length marks → Tells s (w .lent) values marks w
+
+-- "Writing gives a message that reads back to the same parts with the same stored bitmap lent"
+abbrev pub ReadAfterWrite : Type 0
+ReadAfterWrite =
+    (w : Parts) (out : List ℕ) → GridFits (w .form .grid) → NumberFits (w .form .bitmap) → w .scale .r < 2 ^ 32
+    → T (accepted (writeRefusal w out))
+    → Returned w (handed (writeOf w out) (outputAfter w out))
+
+-- "Reading and then writing gives the same octets when padding and reserved octets are zero and no signed field .. is minus zero"
+abbrev pub WriteAfterRead : Type 0
+WriteAfterRead =
+    (s out : List ℕ) (lent : Lent) → Below 256 s → Taken s lent → T (canonical s lent) → length s ≤ length out
+    → let w = partsIn s lent in T (accepted (writeRefusal w out)) × (handed (writeOf w out) (outputAfter w out) ≡ s)
+
+-- and only then: the octets that the writer has for the parts read are those that were read
+abbrev pub WriteAfterReadExactly : Type 0
+WriteAfterReadExactly = (s : List ℕ) (lent : Lent) → Below 256 s → Taken s lent → T (canonical s lent) ↔ (message (partsIn s lent) ≡ s)
+
+-- and none of the conditions can be left out: for each there is a message that is taken, breaks that one alone, and does not come back
+abbrev pub only : ℕ → List Bool
+only k = eqb k 0 ∷ eqb k 1 ∷ eqb k 2 ∷ eqb k 3 ∷ eqb k 4 ∷ eqb k 5 ∷ eqb k 6 ∷ eqb k 7 ∷ []
+
+pub record Stained (k : ℕ) : Type 0 where
+  pub s : List ℕ
+  pub lent : Lent
+  pub taken : Taken s lent
+  pub alone : stains s lent ≡ only k
+  pub lost : message (partsIn s lent) ≡ s → ⊥
+
+abbrev pub StainsNeeded : Type 0
+StainsNeeded = (k : ℕ) → k < 8 → Stained k
