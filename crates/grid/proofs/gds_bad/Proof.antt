@@ -1,0 +1,13 @@
+-- Refusal 8: the list of tests opened, by congruence over the calls.
+use Rattle.rules.specs.Table.{anyOf, orAll}
+use Rattle.rules.specs.Grid.{gdsFaults}
+use borrow.Author.Needs.{needs}
+use Rattle.grid.proofs.gds_bad.Statement.{statement}
+use Rattle.grid.proofs.gds_bad.Tie as tie
+
+returns : tie.Need-returns
+unfolding anyOf orAll gdsFaults
+returns c = cc
+
+pub gds-bad-spec : {M : Type 1} → statement M
+gds-bad-spec = tie.close (tie.spec (λ c. search needs) (λ c κs. search needs) (λ c κs. search needs) (λ c κs. search needs) returns)

@@ -1,0 +1,12 @@
+-- Refusal 3: one octet, by congruence.
+use Rattle.rules.specs.Places.{editionBad}
+use borrow.Author.Needs.{needs}
+use Rattle.places.proofs.edition_bad.Statement.{statement}
+use Rattle.places.proofs.edition_bad.Tie as tie
+
+returns : tie.Need-returns
+unfolding editionBad
+returns c = cc
+
+pub edition-bad-spec : {M : Type 1} → statement M
+edition-bad-spec = tie.close (tie.spec (λ c κs. search needs) returns)

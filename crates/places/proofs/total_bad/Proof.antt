@@ -1,0 +1,14 @@
+-- Refusal 4: the list of tests opened, by congruence over the calls.
+use Rattle.rules.specs.Table.{anyOf, orAll}
+use Rattle.rules.specs.Places.{totalFaults}
+use borrow.Author.Needs.{needs}
+use Rattle.places.proofs.total_bad.Statement.{statement}
+use Rattle.places.proofs.total_bad.Tie as tie
+
+returns : tie.Need-returns
+unfolding anyOf orAll totalFaults
+returns c = cc
+
+pub total-bad-spec : {M : Type 1} → statement M
+total-bad-spec =
+    tie.close (tie.spec (λ c κs. search needs) (λ c. search needs) (λ c κs. search needs) (λ c κs. search needs) returns)

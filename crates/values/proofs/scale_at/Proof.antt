@@ -1,0 +1,12 @@
+-- Two fields read, by congruence.
+use Rattle.rules.specs.Values.{scaleAt}
+use borrow.Author.Needs.{needs}
+use Rattle.values.proofs.scale_at.Statement.{statement}
+use Rattle.values.proofs.scale_at.Tie as tie
+
+returns : tie.Need-returns
+unfolding scaleAt
+returns c = cc
+
+pub scale-at-spec : {M : Type 1} → statement M
+scale-at-spec = tie.close (tie.spec (λ c κs. search needs) (λ c κs. search needs) returns)
