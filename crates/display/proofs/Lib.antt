@@ -1,0 +1,4 @@
+pub mod Lead
+pub mod Shift
+pub mod Finite
+pub mod Laws
