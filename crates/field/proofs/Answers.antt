@@ -1,0 +1,136 @@
+-- What reading answers: refused by the message's own rows, by 14, or both lists filled; from the header and one more row.
+use mathlib.Core.Path.{_≡_, refl, sym, ap, ap₂, _∙_, subst}
+use mathlib.Core.Bool.{Bool, true, false, _||_, cond}
+use mathlib.Core.List.{List, _++_}
+use Prim.Native.Nat.{ℕ, _+_, _*_, _≤_, _<_}
+use native.Mathlib.Omega.{arith}
+use borrow.Author.Tests.{ltb-false}
+use lib.Dec.{T, ltb, eqb}
+use lib.ListN.{length, drop}
+use Rattle.rules.specs.declared.{Refusal.Refusal, Places.Places, Packing.Packing, Header.Header}
+use Rattle.bits.specs.Bits.{bitsIn, count, runs}
+use Rattle.bits.specs.Tables.{tab}
+use Rattle.bits.proofs.Fill.{length-tab}
+use Rattle.rules.specs.Bounds.{messageMost}
+use Rattle.rules.specs.Table.{refusal, accepted, filled, first}
+use Rattle.rules.specs.Places.{after, placesOf, sizeBad}
+use Rattle.rules.specs.Bitmap.{Lent, inForce, presentBy, bitmapOctets}
+use Rattle.rules.specs.Points.{valueAt, scattered}
+use Rattle.rules.specs.Values.{packingFaults, valuesAt}
+use Rattle.rules.specs.Reading.{parsedOf, foundBy, foundIn, refusedBy, ownRefusal, answerBy, headerOf, gridOf, bitmapIn, inForceIn, pointsIn, presentIn, presentCount, packingIn, valuesIn, marksIn, readTable, readRefusal, readOf, valuesAfter, marksAfter}
+use Rattle.theorems.proofs.Rows.{none-of, or-false, inside}
+use Rattle.theorems.proofs.Judged.{judged}
+use Rattle.theorems.proofs.Tiles.{sections}
+use Rattle.theorems.proofs.Bounded.{bitmap-inside}
+use Rattle.message.proofs.Stages.{one-more}
+use Rattle.message.proofs.Said as S
+
+module _ (s : List ℕ) (lent : Lent) (v w : List ℕ) where
+  -- what was answered, and the two lists afterwards
+  abbrev pub Answered : Header → List ℕ → List ℕ → Type 0
+  Answered h x y = (h ≡ readOf s lent v w) × ((x ≡ valuesAfter s lent v w) × (y ≡ marksAfter s lent v w))
+
+  abbrev short : Bool
+  short = ltb (length v) (pointsIn s) || ltb (length w) (pointsIn s)
+
+  refusal-by : (t : Bool) → t ≡ short → readRefusal s lent v w ≡ cond (accepted (ownRefusal s lent)) (cond t (refusal 14) (refusal 0)) (ownRefusal s lent)
+  unfolding readRefusal readTable
+  refusal-by t e = one-more s lent 14 short ∙ ap (λ (x : Bool). cond (accepted (ownRefusal s lent)) (cond x (refusal 14) (refusal 0)) (ownRefusal s lent)) (sym e)
+
+  unchanged : (r : Refusal) → readRefusal s lent v w ≡ r → accepted r ≡ false → Answered (refusedBy r) v w
+  unfolding readOf answerBy valuesAfter marksAfter filled
+  unchanged r e n = (
+    sym (ap (λ (x : Refusal). answerBy x s lent) e ∙ rw n),
+    (sym (ap (λ (x : Refusal). filled x (valuesIn s lent) v) e ∙ rw n), sym (ap (λ (x : Refusal). filled x (marksIn s lent) w) e ∙ rw n)),
+  )
+
+  module _ (h : Header) (e : h ≡ headerOf s lent) where
+    pub refused : (h .refusal .number ≡ 0 → ⊥) → Answered h v w
+    unfolding headerOf answerBy
+    refused z =
+        let n = S.refused s lent h e z in
+        let r : readRefusal s lent v w ≡ ownRefusal s lent = refusal-by short refl ∙ rw n in
+        let q = unchanged (ownRefusal s lent) r n in
+        (e ∙ rw n (q .0), q .1)
+
+    module _ (z : h .refusal .number ≡ 0) where
+      took : T (accepted (ownRefusal s lent))
+      took = subst T (sym (S.taken s lent h e z)) tt
+
+      points : h .points ≡ pointsIn s
+      points = S.points-of s lent h e z
+
+      abbrev tested : Bool
+      tested = ltb (length v) (h .points) || ltb (length w) (h .points)
+
+      tested-is : tested ≡ short
+      tested-is = ap (λ (x : ℕ). ltb (length v) x || ltb (length w) x) points
+
+      refusal-is : (t : Bool) → tested ≡ t → readRefusal s lent v w ≡ cond t (refusal 14) (refusal 0)
+      refusal-is t q = refusal-by t (sym q ∙ tested-is) ∙ rw (S.taken s lent h e z)
+
+      pub too-short : tested ≡ true → (r : Header) → r ≡ refusedBy (refusal 14) → Answered r v w
+      too-short q r d = let a = unchanged (refusal 14) (refusal-is true q) refl in (d ∙ a .0, a .1)
+
+      -- what filling asks
+      pub narrow : h .packing .bits ≤ 24
+      unfolding packingFaults
+      narrow =
+          subst (λ (x : Packing). x .bits ≤ 24) (sym (S.packing-of s lent h e z))
+          (ltb-false 24 (packingIn s .bits) (none-of (packingFaults (packingIn s)) (judged s lent took .packing) .1 .0))
+
+      pub counted : h .present ≡ count (presentBy (h .bitmap) (bitmapOctets s (lent .octets) (inForce (h .bitmap) (h .places .bms) (h .points)))) 0 (h .points)
+      unfolding presentCount presentIn inForceIn foundIn foundBy parsedOf
+      counted =
+          S.present-of s lent h e z
+          ∙ sym (ap {B = ℕ} (λ (q : Header). count (presentBy (q .bitmap) (bitmapOctets s (lent .octets) (inForce (q .bitmap) (q .places .bms) (q .points)))) 0 (q .points)) (S.said s lent h e z))
+
+      pub lies : after (inForce (h .bitmap) (h .places .bms) (h .points) .part) ≤ length (cond (inForce (h .bitmap) (h .places .bms) (h .points) .stored) (lent .octets) s)
+      unfolding inForceIn foundIn foundBy parsedOf
+      lies =
+          subst (λ (q : Header). after (inForce (q .bitmap) (q .places .bms) (q .points) .part) ≤ length (cond (inForce (q .bitmap) (q .places .bms) (q .points) .stored) (lent .octets) s))
+          (sym (S.said s lent h e z)) (bitmap-inside s lent took)
+
+      pub room : tested ≡ false → (h .points ≤ length v) × (h .points ≤ length w)
+      room q = let o = or-false (ltb (length v) (h .points)) (ltb (length w) (h .points)) q in (ltb-false _ _ (o .0), ltb-false _ _ (o .1))
+
+      -- the data's place is no large number
+      pub early : h .places .bds .start ≤ 262144
+      unfolding sizeBad
+      early =
+          let a = sections s lent took .end in
+          let b = inside 8 messageMost (length s) (judged s lent took .size) .1 in
+          subst (λ (x : Places). x .bds .start ≤ 262144) (sym (S.places-of s lent h e z)) (omega arith)
+
+      own : ownRefusal s lent ≡ refusal 0
+      own = sym (S.own s lent h e) ∙ ap refusal z
+
+      -- the lists by the header, and by the definitions
+      abbrev by : Header → ℕ → ℕ
+      by q = presentBy (q .bitmap) (bitmapOctets s (lent .octets) (inForce (q .bitmap) (q .places .bms) (q .points)))
+
+      abbrev valuesBy : Header → List ℕ
+      valuesBy q = scattered (by q) (runs (bitsIn 8 s) ((q .places .bds .start + 11) * 8) (q .packing .bits) (q .present)) (q .points)
+
+      values-are : valuesBy h ++ drop (h .points) v ≡ valuesIn s lent ++ drop (length (valuesIn s lent)) v
+      unfolding valuesIn presentIn inForceIn valuesAt foundIn foundBy parsedOf scattered
+      values-are =
+          ap (λ (q : Header). valuesBy q ++ drop (q .points) v) (S.said s lent h e z)
+          ∙ ap (λ (k : ℕ). valuesIn s lent ++ drop k v) (sym (length-tab _ (pointsIn s)))
+
+      marks-are : tab (by h) (h .points) ++ drop (h .points) w ≡ marksIn s lent ++ drop (length (marksIn s lent)) w
+      unfolding marksIn presentIn inForceIn foundIn foundBy parsedOf
+      marks-are =
+          ap (λ (q : Header). tab (by q) (q .points) ++ drop (q .points) w) (S.said s lent h e z)
+          ∙ ap (λ (k : ℕ). marksIn s lent ++ drop k w) (sym (length-tab _ (pointsIn s)))
+
+      pub done : tested ≡ false → (x y : List ℕ) → x ≡ valuesBy h ++ drop (h .points) v → y ≡ tab (by h) (h .points) ++ drop (h .points) w → Answered h x y
+      unfolding headerOf readOf valuesAfter marksAfter filled
+      done q x y a b =
+          let r = refusal-is false q in (
+            e ∙ ap (λ (k : Refusal). answerBy k s lent) (own ∙ sym r),
+            (
+              a ∙ values-are ∙ sym (ap (λ (k : Refusal). filled k (valuesIn s lent) v) r),
+              b ∙ marks-are ∙ sym (ap (λ (k : Refusal). filled k (marksIn s lent) w) r),
+            ),
+          )

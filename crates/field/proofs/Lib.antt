@@ -1,0 +1,4 @@
+pub mod Spreading
+pub mod Presence
+pub mod Loops
+pub mod Answers

@@ -1,0 +1,25 @@
+-- The present values unpacked to the front and spread to their points, then the marks: the loops' promises in turn.
+use borrow.Author.Needs.{needs}
+use Prim.Native.Nat.{_-_}
+use Rattle.field.proofs.Loops.{some-values}
+use Rattle.field.proofs.lists.some_present.Statement.{statement}
+use Rattle.field.proofs.lists.some_present.Tie as tie
+
+returns : tie.Need-returns
+returns c =
+    let spread = c .before .before .before .before .before .before in
+    let unpack = spread .before .before .before .before in
+    let start = unpack .before .before .before .before .before .before in
+    let p = start .pre in
+    (some-values _ _ _ _ _ _ _ _ _ (p .0) (p .1 .0) (p .1 .1 .1 .0) (unpack .unpack .ensures .1) (spread .spread .ensures), c .before .before .marks-of .ensures)
+
+pub some-present-spec : {M : Type 1} → statement M
+some-present-spec =
+    tie.close
+    (tie.spec
+    (λ c κs. search needs)
+    (λ c κs. search needs)
+    (λ c κs. search needs)
+    (λ c. search needs)
+    (λ c. search needs)
+    returns)

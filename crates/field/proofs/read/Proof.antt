@@ -1,0 +1,71 @@
+-- Reading a field: refused by the message's own rows, by 14, or both lists filled; each from the header and one more row.
+use native.Mathlib.Omega.{arith}
+use Prim.Native.Nat.{_-_}
+use borrow.Author.Needs.{needs}
+use Rattle.field.proofs.Answers as A
+use Rattle.field.proofs.read.Statement.{statement}
+use Rattle.field.proofs.read.Tie as tie
+
+returns : tie.Need-returns
+returns c =
+    let asked = c .before .before in
+    let a = asked .before .before .before .before .before .args in
+    A.refused _ _ (a .values .now) (a .marks .now) _ (asked .header .ensures) (c .if1 .taken)
+
+returns-2 : tie.Need-returns-2
+returns-2 c =
+    let other = c .before .before in
+    let asked = other .before .before in
+    let a = asked .before .before .before .before .before .args in
+    A.too-short _ _ (a .values .now) (a .marks .now) _ (asked .header .ensures) (other .if1 .left) (c .before .if2 .taken) _ (c .refused .ensures)
+
+add-at : tie.Need-add-at
+add-at c =
+    let other = c .before .before .before in
+    let asked = other .before .before in
+    let a = asked .before .before .before .before .before .args in
+    omega (arith, A.early _ _ (a .values .now) (a .marks .now) _ (asked .header .ensures) (other .if1 .left))
+
+mul-at : tie.Need-mul-at
+mul-at c =
+    let other = c .before .before .before in
+    let asked = other .before .before in
+    let a = asked .before .before .before .before .before .args in
+    omega (arith, A.early _ _ (a .values .now) (a .marks .now) _ (asked .header .ensures) (other .if1 .left))
+
+fill-requires : tie.Need-fill-requires
+fill-requires c κs =
+    let long = c .before .before .before .before in
+    let other = long .before in
+    let asked = other .before .before in
+    let a = asked .before .before .before .before .before .args in
+    let e = asked .header .ensures in
+    let z = other .if1 .left in
+    let r = A.room _ _ (a .values .now) (a .marks .now) _ e z (long .if2 .left) in
+    (A.narrow _ _ (a .values .now) (a .marks .now) _ e z, (A.counted _ _ (a .values .now) (a .marks .now) _ e z, (A.lies _ _ (a .values .now) (a .marks .now) _ e z, (r .0, r .1))))
+
+returns-3 : tie.Need-returns-3
+returns-3 c =
+    let filled = c .before .before .before .before in
+    let long = filled .before .before .before .before .before in
+    let other = long .before in
+    let asked = other .before .before in
+    let a = asked .before .before .before .before .before .args in
+    A.done _ _ (a .values .now) (a .marks .now) _ (asked .header .ensures) (other .if1 .left) (long .if2 .left) _ _ (filled .fill .ensures .0) (filled .fill .ensures .1)
+
+pub read-spec : {M : Type 1} → statement M
+read-spec =
+    tie.close
+    (tie.spec
+    (λ c κs. search needs)
+    returns
+    (λ c. search needs)
+    (λ c. search needs)
+    (λ c κs. search needs)
+    returns-2
+    add-at
+    mul-at
+    fill-requires
+    (λ c. search needs)
+    (λ c. search needs)
+    returns-3)

@@ -1,0 +1,45 @@
+// Reading a field: its header, and n values and n marks into lent lists. Total: replies 1 to 12 are the message's own, 14 says that a list
+// is too short, and on a refusal nothing lent changes.
+ghost use mathlib.Core.Path.{_≡_};
+ghost use Rattle.rules.specs.Reading.{readOf, valuesAfter, marksAfter};
+
+mod lists; // lists.rt: values and marks by the kind of bitmap
+mod spread; // spread.rt: values to their points, and marks, through a bitmap
+
+use crate::lists::fill;
+use message::header;
+use message::refused;
+use rules::Header;
+use rules::Refusal;
+
+// The header of a message, with its values and marks put at the front of the lent lists.
+pub fn read(s: &[u8], number: u16, store: &[u8], values: &mut [u32], marks: &mut [u8]) -> Header
+    ensures { λ r. ⌜ r ≡ readOf (now (s .entry)) (record { number = number; octets = now (store .entry) }) (now (values .entry)) (now (marks .entry)) ⌝ }
+    ensures { λ _. ⌜ now (values .exit) ≡ valuesAfter (now (s .entry)) (record { number = number; octets = now (store .entry) }) (now (values .entry)) (now (marks .entry)) ⌝ }
+    ensures { λ _. ⌜ now (marks .exit) ≡ marksAfter (now (s .entry)) (record { number = number; octets = now (store .entry) }) (now (values .entry)) (now (marks .entry)) ⌝ }
+{
+    let h = header(s, number, store);
+    if h.refusal.number != 0 {
+        return h;
+    }
+    let n = h.points;
+    if (values.len() < n as usize) | (marks.len() < n as usize) {
+        return refused(Refusal { number: 14 });
+    }
+    let bitmap = h.bitmap;
+    let bms = h.places.bms;
+    let at = (h.places.bds.start + 11) * 8;
+    fill(
+        s,
+        store,
+        bitmap,
+        bms,
+        at,
+        h.packing.bits,
+        n,
+        h.present,
+        values,
+        marks,
+    );
+    h
+}

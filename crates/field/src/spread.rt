@@ -1,0 +1,104 @@
+// Loops that read through a bitmap: values to their points, and marks.
+ghost use mathlib.Core.Path.{_≡_};
+ghost use Prim.Native.Nat.{ℕ, _+_, _*_, _<_, _≤_};
+ghost use lib.ListN.{length, drop};
+ghost use mathlib.Core.List.{List, _++_};
+ghost use Rattle.bits.specs.Bits.{bitOf, bitsIn, count};
+ghost use Rattle.bits.specs.Tables.{tab};
+ghost use Rattle.rules.specs.Points.{valueAt};
+ghost use Rattle.field.specs.Down.{Down};
+
+// Bit j of an octet, the highest being bit 0.
+fn bit(b: u8, j: usize) -> u32
+    requires { ⌜ j < 8 ⌝ }
+    ensures { λ r. ⌜ (r ≡ bitOf 8 b j) × (r < 2) ⌝ }
+{
+    ((b >> (7 - j)) % 2) as u32
+}
+
+// v where k is 1, and 0 where it is 0.
+fn times(v: u32, k: u32) -> u32
+    requires { ⌜ k < 2 ⌝ }
+    ensures { λ r. ⌜ r ≡ v * k ⌝ }
+{
+    v * k
+}
+
+// The eight points of octet g of the bitmap, from the last to the first; c values stand before them and with them.
+// Octets that are all absent or all present need no bit of it.
+fn spread_octet(bitmap: &[u8], values: &mut [u32], n: usize, g: usize, c: usize) -> usize
+    requires { ⌜ c ≡ count (bitsIn 8 (now bitmap)) 0 (g * 8 + 8) ⌝ }
+    requires { ⌜ g < length (now bitmap) ⌝ }
+    requires { ⌜ g * 8 + 8 ≤ n ⌝ }
+    requires { ⌜ n ≤ length (now values) ⌝ }
+    ensures { λ r. ⌜ (r ≡ count (bitsIn 8 (now (bitmap .entry))) 0 (g * 8)) × ((v : List ℕ) → Down (bitsIn 8 (now (bitmap .entry))) n v (now (values .entry)) (g * 8 + 8) → Down (bitsIn 8 (now (bitmap .entry))) n v (now (values .exit)) (g * 8)) ⌝ }
+{
+    let b = bitmap[g];
+    let mut j: usize = 8;
+    let mut d = c;
+    if b == 0 {
+        while j > 0 {
+            j -= 1;
+            values[g * 8 + j] = 0;
+        }
+    } else if b == 255 {
+        while j > 0 {
+            j -= 1;
+            d -= 1;
+            values[g * 8 + j] = values[d];
+        }
+    } else {
+        while j > 0 {
+            j -= 1;
+            let k = bit(b, j);
+            d -= k as usize;
+            values[g * 8 + j] = times(values[d], k);
+        }
+    }
+    d
+}
+
+// The first m values are those at the present ones of n points, in order. Each goes to its point, the last first, and absent points become 0.
+pub(crate) fn spread(bitmap: &[u8], values: &mut [u32], n: usize, m: usize)
+    requires { ⌜ m ≡ count (bitsIn 8 (now bitmap)) 0 n ⌝ }
+    requires { ⌜ n ≤ length (now bitmap) * 8 ⌝ }
+    requires { ⌜ n ≤ length (now values) ⌝ }
+    ensures { λ _. ⌜ now (values .exit) ≡ tab (valueAt (bitsIn 8 (now (bitmap .entry))) (now (values .entry))) n ++ drop n (now (values .entry)) ⌝ }
+{
+    let mut i = n;
+    let mut c = m;
+    while i % 8 != 0 {
+        i -= 1;
+        let k = bit(bitmap[i / 8], i % 8);
+        c -= k as usize;
+        values[i] = times(values[c], k);
+    }
+    let mut g = i / 8;
+    while g > 0 {
+        g -= 1;
+        c = spread_octet(bitmap, values, n, g, c);
+    }
+}
+
+// A mark for each of the first n points: its bit of the bitmap.
+pub(crate) fn marks_of(bitmap: &[u8], marks: &mut [u8], n: usize)
+    requires { ⌜ n ≤ length (now bitmap) * 8 ⌝ }
+    requires { ⌜ n ≤ length (now marks) ⌝ }
+    ensures { λ _. ⌜ now (marks .exit) ≡ tab (bitsIn 8 (now (bitmap .entry))) n ++ drop n (now (marks .entry)) ⌝ }
+{
+    let mut g: usize = 0;
+    while g < n / 8 {
+        let b = bitmap[g];
+        let mut j: usize = 0;
+        while j < 8 {
+            marks[g * 8 + j] = (b >> (7 - j)) % 2;
+            j += 1;
+        }
+        g += 1;
+    }
+    let mut i = g * 8;
+    while i < n {
+        marks[i] = (bitmap[i / 8] >> (7 - i % 8)) % 2;
+        i += 1;
+    }
+}
