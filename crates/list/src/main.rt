@@ -1,0 +1,6 @@
+// The listing program: reads one message from standard input and writes its listing.
+use libc::STDIN_FILENO;
+
+fn main() {
+    printer::print_from(STDIN_FILENO);
+}

@@ -1,0 +1,14 @@
+-- The two cases of the test.
+use borrow.Author.Needs.{needs}
+use borrow.Author.Tests.{eq-eqb, ne-eqb}
+use Rattle.listing.proofs.rows.stop.Statement.{statement}
+use Rattle.listing.proofs.rows.stop.Tie as tie
+
+returns : tie.Need-returns
+returns c = rw (eq-eqb _ _ (c .if1 .taken))
+
+returns-2 : tie.Need-returns-2
+returns-2 c = rw (ne-eqb _ _ (c .if1 .left))
+
+pub stop-spec : {M : Type 1} → statement M
+stop-spec = tie.close (tie.spec (λ c. search needs) returns returns-2)

@@ -1,0 +1,198 @@
+// What is printed of an answer, one space before each thing.
+//
+// A refusal: its number; `zeros` where all else is zero; `kept` where the lists are as they were. An acceptance: 0; points, present, columns,
+// rows; D, E, R, N, flags; the bitmap's kind; year, month, day, hour, minute; La1, Lo1, resolution flags, La2, Lo2, Di, Dj, scanning flags;
+// row and column of the first two points; the sum of values and marks; `kept` where the elements after n are as they were.
+use crate::lists::marks_kept;
+use crate::lists::summed;
+use crate::lists::values_kept;
+use chart::spot_of;
+use libc::STDOUT_FILENO;
+use rules::Bitmap;
+use rules::Charted;
+use rules::Grid;
+use rules::GridPoint;
+use rules::Header;
+use rules::Moment;
+use rules::Part;
+use rules::Signed;
+
+fn word(text: &[u8]) {
+    io::write_all(STDOUT_FILENO, b" ");
+    io::write_all(STDOUT_FILENO, text);
+}
+
+fn number(n: u64) {
+    io::write_all(STDOUT_FILENO, b" ");
+    io::print_decimal(STDOUT_FILENO, n);
+}
+
+fn whole(n: u32) {
+    number(n as u64);
+}
+
+fn octet(n: u8) {
+    number(n as u64);
+}
+
+fn hex(n: u32) {
+    io::write_all(STDOUT_FILENO, b" ");
+    io::print_hex(STDOUT_FILENO, n as u64, 8);
+}
+
+// A number with its sign, by way of the three octets that the format has for it: from 8,388,608 on they say minus.
+fn signed(z: Signed) {
+    let mut field = [0u8; 3];
+    octets::put_signed_three(&mut field, 0, 1, z);
+    let n = octets::three(&field, 0, 1);
+    if n < 8388608 {
+        whole(n);
+    } else {
+        word(b"-");
+        io::print_decimal(STDOUT_FILENO, (n - 8388608) as u64);
+    }
+}
+
+fn kind(bitmap: Bitmap) {
+    match bitmap {
+        Bitmap::Without => word(b"without"),
+        Bitmap::Carried => word(b"carried"),
+        Bitmap::Stored(k) => {
+            word(b"stored");
+            number(k as u64);
+        }
+    }
+}
+
+fn moment(t: Moment) {
+    number(t.year as u64);
+    number(t.month as u64);
+    number(t.day as u64);
+    number(t.hour as u64);
+    number(t.minute as u64);
+}
+
+fn corners(g: Grid) {
+    signed(g.la1);
+    signed(g.lo1);
+    number(g.flags as u64);
+    signed(g.la2);
+    signed(g.lo2);
+    number(g.di as u64);
+    number(g.dj as u64);
+    number(g.scan as u64);
+}
+
+fn spot(g: Grid, k: u32) {
+    let s = spot_of(g.ni, g.nj, g.scan, GridPoint(k));
+    match s {
+        Charted::On(at) => {
+            number(at.row as u64);
+            number(at.column as u64);
+        }
+        Charted::Off => word(b"off"),
+    }
+}
+
+fn lists(values: &[u32], marks: &[u8], n: usize) {
+    if values_kept(values, n) & marks_kept(marks, n) {
+        return word(b"kept");
+    }
+    word(b"changed")
+}
+
+// The sum, where the lists have n elements, as an accepted message's have.
+fn sum(values: &[u32], marks: &[u8], n: usize) {
+    if n <= values.len() {
+        if n <= marks.len() {
+            hex(summed(values, marks, n));
+        }
+    }
+}
+
+fn taken(h: Header, values: &[u32], marks: &[u8]) {
+    let g = h.grid;
+    let bitmap = h.bitmap;
+    whole(h.points);
+    whole(h.present);
+    number(g.ni as u64);
+    number(g.nj as u64);
+    signed(h.d);
+    signed(h.scale.e);
+    hex(h.scale.r);
+    octet(h.packing.bits);
+    octet(h.packing.flags);
+    kind(bitmap);
+    moment(h.time);
+    corners(g);
+    spot(g, 0);
+    spot(g, 1);
+    let n = h.points as usize;
+    sum(values, marks, n);
+    lists(values, marks, n);
+}
+
+fn no_part(p: Part) -> bool {
+    (p.start == 0) & (p.len == 0)
+}
+
+fn no_time(t: Moment) -> bool {
+    (t.year == 0) & (t.month == 0) & (t.day == 0) & (t.hour == 0) & (t.minute == 0)
+}
+
+fn no_grid(g: Grid) -> bool {
+    (g.ni == 0)
+        & (g.nj == 0)
+        & (g.la1.value == 0)
+        & (g.lo1.value == 0)
+        & (g.flags == 0)
+        & (g.la2.value == 0)
+        & (g.lo2.value == 0)
+        & (g.di == 0)
+        & (g.dj == 0)
+        & (g.scan == 0)
+}
+
+fn no_bitmap(bitmap: Bitmap) -> bool {
+    match bitmap {
+        Bitmap::Without => true,
+        Bitmap::Carried => false,
+        Bitmap::Stored(_) => false,
+    }
+}
+
+// "all counts and fields zero".
+fn zeros(h: Header) -> bool {
+    let places = h.places;
+    let bitmap = h.bitmap;
+    no_part(places.pds)
+        & no_part(places.gds)
+        & no_part(places.bms)
+        & no_part(places.bds)
+        & no_time(h.time)
+        & (h.d.value == 0)
+        & no_grid(h.grid)
+        & (h.points == 0)
+        & no_bitmap(bitmap)
+        & (h.present == 0)
+        & (h.packing.flags == 0)
+        & (h.packing.bits == 0)
+        & (h.scale.e.value == 0)
+        & (h.scale.r == 0)
+}
+
+fn refused(h: Header, values: &[u32], marks: &[u8]) {
+    if zeros(h) {
+        word(b"zeros");
+    }
+    lists(values, marks, 0);
+}
+
+pub(crate) fn answer(h: Header, values: &[u32], marks: &[u8]) {
+    number(h.refusal.number as u64);
+    if h.refusal.number == 0 {
+        taken(h, values, marks);
+    } else {
+        refused(h, values, marks);
+    }
+}

@@ -1,0 +1,124 @@
+// The reader on each vector file that an argument names, and a line for each: the name, the reply, what the message says, and what became of
+// the lent lists.
+//
+// A vector file has octets 1-2 the lent bitmap's number, 3-5 how many octets it has, 6-8 how many octets the message has, 9-11 how many of
+// them stand first in the file, 12-14 the place from which on the others stand there, 15-17 the room for values, 18-20 the room for marks;
+// then the lent bitmap, the message's first octets and its last ones. Those in between are zero, so a long message can be a small file.
+mod line; // line.rt: what is printed
+mod lists; // lists.rt: what the lent lists hold before and after
+
+use crate::line::answer;
+use crate::lists::fill_marks;
+use crate::lists::fill_values;
+use rules::bounds::MESSAGE_MOST;
+use rules::bounds::POINTS_MOST;
+
+const HEAD: usize = 20;
+
+// The octets of a bitmap of all points, and one more.
+const STORE: usize = POINTS_MOST as usize / 8 + 1;
+
+// One octet and one element more than a message may have.
+const MESSAGE: usize = MESSAGE_MOST + 1;
+
+const ROOM: usize = POINTS_MOST as usize + 1;
+
+// Reads the file on into the places of the room from one up to another, where the room has them.
+fn load(fd: i32, room: &mut [u8], from: usize, to: usize) {
+    if from <= to {
+        if to <= room.len() {
+            io::read_full(fd, &mut room[from..to]);
+        }
+    }
+}
+
+// Lists filled, the message read into them, and the line.
+fn judge(s: &[u8], number: u16, store: &[u8], values: &mut [u32], marks: &mut [u8]) {
+    fill_values(values);
+    fill_marks(marks);
+    let h = field::read(s, number, store, values, marks);
+    answer(h, values, marks);
+}
+
+// The same on so many octets and elements of each as the vector says.
+fn judge_lists(
+    s: &[u8],
+    number: u16,
+    store: &[u8],
+    values: &mut [u32],
+    v: usize,
+    marks: &mut [u8],
+    m: usize,
+) {
+    if v <= values.len() {
+        if m <= marks.len() {
+            judge(s, number, store, &mut values[..v], &mut marks[..m]);
+        }
+    }
+}
+
+fn judge_octets(s: &[u8], len: usize, number: u16, store: &[u8], held: usize, v: usize, m: usize) {
+    let mut values = [0u32; ROOM];
+    let mut marks = [0u8; ROOM];
+    if len <= s.len() {
+        if held <= store.len() {
+            judge_lists(
+                &s[..len],
+                number,
+                &store[..held],
+                &mut values,
+                v,
+                &mut marks,
+                m,
+            );
+        }
+    }
+}
+
+fn size(head: &[u8], k: u8) -> usize {
+    octets::three(head, 0, k) as usize
+}
+
+fn run_vector(fd: i32) {
+    let mut head = [0u8; HEAD];
+    let mut store = [0u8; STORE];
+    let mut message = [0u8; MESSAGE];
+    load(fd, &mut head, 0, HEAD);
+    let held = size(&head, 3);
+    let len = size(&head, 6);
+    load(fd, &mut store, 0, held);
+    load(fd, &mut message, 0, size(&head, 9));
+    load(fd, &mut message, size(&head, 12), len);
+    judge_octets(
+        &message,
+        len,
+        octets::two(&head, 0, 1),
+        &store,
+        held,
+        size(&head, 15),
+        size(&head, 18),
+    );
+}
+
+fn open_vector(i: usize) {
+    let mut path = io::buffer();
+    let n = os::arg(i, &mut path);
+    io::write_all(libc::STDOUT_FILENO, &path[..n]);
+    let fd = os::open_read(&path[..n]);
+    if fd < 0 {
+        os::fail(&path[..n]);
+        return;
+    }
+    run_vector(fd);
+    io::write_all(libc::STDOUT_FILENO, b"\n");
+    libc::close(fd);
+}
+
+fn main() {
+    let count = os::arg_count();
+    let mut i: usize = 1;
+    while i < count {
+        open_vector(i);
+        i += 1;
+    }
+}
