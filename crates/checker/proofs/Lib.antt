@@ -1,0 +1,5 @@
+pub mod Distance
+pub mod Agreement
+pub mod Present
+pub mod Rows
+pub mod Stages

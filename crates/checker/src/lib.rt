@@ -1,0 +1,24 @@
+// The check of a message against its source field. Refusals 1 to 12 are the message's own; then 18, 15, 16 and 17, each in a stage of its own:
+// no list is walked where an earlier stage refuses. Total, and linear in the points.
+ghost use mathlib.Core.Path.{_≡_};
+ghost use Rattle.rules.specs.Checking.{checkOf};
+
+mod judging; // judging.rt: refusals 18, 15, 16 and 17 of a message that is taken
+mod marks; // marks.rt: refusal 15's comparison of marks
+mod steps; // steps.rt: refusal 17's distance of a point
+
+use judging::judge;
+use message::header;
+use rules::Refusal;
+
+// The reply to a message (with the stored bitmap of a number lent) and a source field: 0 says yes.
+pub fn check(s: &[u8], number: u16, store: &[u8], numbers: &[i32], marks: &[u8], d: i32) -> Refusal
+    ensures { λ r. ⌜ r ≡ checkOf (now (s .entry)) (record { number = number; octets = now (store .entry) }) (record { numbers = now (numbers .entry); marks = now (marks .entry); d = d }) ⌝ }
+{
+    let h = header(s, number, store);
+    let own = h.refusal;
+    if own.number != 0 {
+        return own;
+    }
+    judge(s, number, store, h, numbers, marks, d)
+}

@@ -1,0 +1,2 @@
+-- R as a whole number, answered for every input.
+pub mod Whole
