@@ -1,0 +1,3 @@
+pub mod Distances
+pub mod Stepping
+pub mod Choosing

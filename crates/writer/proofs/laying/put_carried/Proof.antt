@@ -1,0 +1,35 @@
+-- A BMS whose bits follow: its fields and then its marks (law carried-placed).
+use native.Mathlib.Omega.{arith}
+use Prim.Native.Nat.{_-_}
+use mathlib.Core.Path.{refl}
+use Rattle.writer.proofs.Sections.{carried-placed}
+use borrow.Author.Needs.{needs}
+use Rattle.writer.proofs.laying.put_carried.Statement.{statement}
+use Rattle.writer.proofs.laying.put_carried.Tie as tie
+
+put-marks-requires : tie.Need-put-marks-requires
+put-marks-requires c κs =
+    (omega arith, (omega arith, c .before .before .before .before .before .before .before .before .pre .1 .1))
+
+returns : tie.Need-returns
+returns c =
+    let a = c .before .before .before .before .before .before .before .before .before .before .before .args in
+    carried-placed (a .out .now) (a .marks .now) (a .b) _ _ (c .before .before .before .before .before .before .before .before .carried-room .ensures) refl (omega arith) _ _ (c .before .before .before .before .before .before .put-bms .ensures) (c .before .before .put-marks .ensures)
+
+pub put-carried-spec : {M : Type 1} → statement M
+put-carried-spec =
+    tie.close
+    (tie.spec
+    (λ c. search needs)
+    (λ c κs. search needs)
+    (λ c. search needs)
+    (λ c. search needs)
+    (λ c. search needs)
+    (λ c. search needs)
+    (λ c. search needs)
+    (λ c κs. search needs)
+    (λ c. search needs)
+    (λ c. search needs)
+    put-marks-requires
+    (λ c. search needs)
+    returns)

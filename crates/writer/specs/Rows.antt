@@ -1,0 +1,57 @@
+-- The writer's table in groups that code judges one after another, each over what it uses.
+use Prim.Native.Nat.{ℕ}
+use mathlib.Core.Bool.{Bool, not}
+use mathlib.Core.List.{List, [], _∷_, _++_}
+use Rattle.rules.specs.declared.{Form.Form, Found.Found, Packing.Packing, Scale.Scale}
+use lib.Dec.{eqb}
+use Rattle.bits.specs.Bits.{bitsIn}
+use Rattle.bits.specs.Tables.{anyBelow}
+use Rattle.rules.specs.Bounds.{exponentMost}
+use Rattle.rules.specs.Numbers.{beyond}
+use Rattle.rules.specs.Table.{Row, row, anyOf}
+use Rattle.rules.specs.Places.{hasGrid, hasBitmap}
+use Rattle.rules.specs.Time.{timeFaults}
+use Rattle.rules.specs.Grid.{gridMissing, theGrid, gridFaults}
+use Rattle.rules.specs.Bitmap.{Lent, bitmapGiven, markOf, valueOf}
+use Rattle.rules.specs.Values.{packingFaults}
+use Rattle.rules.specs.Writing.{pdsFaults, listsFit, storedFaults, gridGiven, pointBad, differ}
+
+-- 5, 6, 7 and 9: the PDS, and the grid found
+unfoldable pub frontRows : List ℕ → Found → List Row
+frontRows pds found =
+    row 5 (anyOf (pdsFaults pds))
+    ∷ row 6 (anyOf (timeFaults pds 0))
+    ∷ row 7 (gridMissing found)
+    ∷ row 9 (anyOf (gridFaults (theGrid found)))
+    ∷ []
+
+-- 10, at one of n points: "one of its first n bits isn't the same number as the mark"
+unfoldable pub marksDiffer : List ℕ → List ℕ → ℕ → Bool
+marksDiffer store marks n = anyBelow (λ i. not (eqb (bitsIn 8 store i) (markOf marks i))) n
+
+-- 11: E and the packing
+unfoldable pub scaleFaults : Scale → Packing → List Bool
+scaleFaults scale packing = beyond exponentMost (scale .e .value) ∷ packingFaults packing
+
+-- 10 and 11, of n points
+unfoldable pub middleRows : Form → Scale → Lent → List ℕ → List ℕ → ℕ → List Row
+middleRows form scale lent values marks n =
+    row 10 (anyOf (storedFaults (form .bitmap) lent values marks n)) ∷ row 11 (anyOf (scaleFaults scale (form .packing))) ∷ []
+
+-- 13, at one of n points
+unfoldable pub pointsBad : Bool → ℕ → List ℕ → List ℕ → ℕ → Bool
+pointsBad bitmap bits values marks n = anyBelow (λ i. pointBad bitmap bits (markOf marks i) (valueOf values i)) n
+
+-- 13, of n points
+unfoldable pub listFaults : List ℕ → Form → List ℕ → List ℕ → ℕ → List Bool
+listFaults pds form values marks n =
+    not (listsFit values marks n)
+    ∷ pointsBad (bitmapGiven (form .bitmap)) (form .packing .bits) values marks n
+    ∷ differ (hasGrid pds 0) (gridGiven (form .grid))
+    ∷ differ (hasBitmap pds 0) (bitmapGiven (form .bitmap))
+    ∷ []
+
+-- all but 14
+unfoldable pub ownRows : List ℕ → Form → Scale → Lent → List ℕ → List ℕ → Found → ℕ → List Row
+ownRows pds form scale lent values marks found n =
+    frontRows pds found ++ (middleRows form scale lent values marks n ++ (row 13 (anyOf (listFaults pds form values marks n)) ∷ []))
