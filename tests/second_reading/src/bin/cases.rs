@@ -1,0 +1,82 @@
+//! `cases --seed S --count N --out DIR [--small]` writes read.antt, write.antt,
+//! check.antt and pack.antt into DIR, N cases in each. With `--small` no message
+//! of a catalogue grid or another grid of many points is taken.
+
+use second_reading::antt;
+use second_reading::cases::{check_case, pack_case, read_case, write_case, Histogram};
+use std::process::ExitCode;
+
+struct Asked {
+    seed: u64,
+    count: usize,
+    out: String,
+    large: bool,
+}
+
+fn asked() -> Option<Asked> {
+    let mut asked = Asked {
+        seed: 1,
+        count: 100,
+        out: String::new(),
+        large: true,
+    };
+    let mut words = std::env::args().skip(1);
+    while let Some(word) = words.next() {
+        match word.as_str() {
+            "--seed" => asked.seed = words.next()?.parse().ok()?,
+            "--count" => asked.count = words.next()?.parse().ok()?,
+            "--out" => asked.out = words.next()?,
+            "--small" => asked.large = false,
+            _ => return None,
+        }
+    }
+    (!asked.out.is_empty()).then_some(asked)
+}
+
+fn file(
+    asked: &Asked,
+    name: &str,
+    statements: impl Fn(usize) -> (String, u32),
+) -> std::io::Result<()> {
+    let mut text = antt::opening(asked.seed);
+    let mut histogram = Histogram::default();
+    for k in 0..asked.count {
+        let (more, reply) = statements(k);
+        text.push_str(&more);
+        histogram.count(reply);
+    }
+    std::fs::write(format!("{}/{name}.antt", asked.out), text)?;
+    eprintln!("{name}: {histogram}");
+    Ok(())
+}
+
+fn run(asked: &Asked) -> std::io::Result<()> {
+    std::fs::create_dir_all(&asked.out)?;
+    let (seed, large) = (asked.seed, asked.large);
+    file(asked, "read", |k| {
+        antt::read_statements(k, &read_case(seed, k, large))
+    })?;
+    file(asked, "write", |k| {
+        antt::write_statements(k, &write_case(seed, k))
+    })?;
+    file(asked, "check", |k| {
+        antt::check_statements(k, &check_case(seed, k, large))
+    })?;
+    file(asked, "pack", |k| {
+        antt::pack_statements(k, &pack_case(seed, k))
+    })
+}
+
+fn main() -> ExitCode {
+    let Some(asked) = asked() else {
+        eprintln!("usage: cases --seed S --count N --out DIR [--small]");
+        return ExitCode::FAILURE;
+    };
+    match run(&asked) {
+        Ok(()) => ExitCode::SUCCESS,
+        Err(error) => {
+            eprintln!("{error}");
+            ExitCode::FAILURE
+        }
+    }
+}

@@ -1,0 +1,275 @@
+//! `listings DIR` makes what the program crate `list_cases` is run on: DIR/data
+//! with a message in each file, DIR/args with the files' names, and DIR/stdout
+//! with what must be written: each name and the listing that `list` works out.
+//!
+//! The messages are chosen, not drawn at random, except for the values of the
+//! largest one, which come from a fixed seed. A name that begins `refused_N` says
+//! that the listing is a refusal by N, and any other name that it is none.
+
+use second_reading::cases::Rng;
+use second_reading::{listing, write, BitmapKind, Form, Grid, Parts};
+use std::process::ExitCode;
+
+/// A PDS of so many octets that keeps the rules, with D.
+fn pds(length: usize, d: i32, has_grid: bool, has_bitmap: bool) -> Vec<u8> {
+    let mut pds = vec![0; length];
+    pds[..3].copy_from_slice(&(length as u32).to_be_bytes()[1..]);
+    pds[3] = 3;
+    pds[4] = 7;
+    pds[6] = 255;
+    pds[7] = 128 * u8::from(has_grid) + 64 * u8::from(has_bitmap);
+    // 1998-03-10 06:00
+    pds[12..17].copy_from_slice(&[98, 3, 10, 6, 0]);
+    pds[24] = 20;
+    pds[26] = 128 * u8::from(d < 0) + (d.unsigned_abs() / 256) as u8;
+    pds[27] = d.unsigned_abs() as u8;
+    pds
+}
+
+/// A grid of columns and rows; the latitudes go the way that the flags say.
+fn grid(ni: u16, nj: u16, scan: u8) -> Grid {
+    let (south, north) = (-2_000, 51_000);
+    let (la1, la2) = if scan & 64 == 0 {
+        (north, south)
+    } else {
+        (south, north)
+    };
+    Grid {
+        ni,
+        nj,
+        la1,
+        lo1: -2_000,
+        flags: 128,
+        la2,
+        lo2: 3_000,
+        di: 1_000,
+        dj: 65_535,
+        scan,
+    }
+}
+
+/// What the writer is given: values, some of them absent.
+fn parts(d: i32, grid: Grid, e: i32, r: u32, bits: u8, points: &[Option<u32>]) -> Parts {
+    let whole = points.iter().all(|point| point.is_some());
+    let bitmap = if whole {
+        BitmapKind::Without
+    } else {
+        BitmapKind::Carried
+    };
+    Parts {
+        pds: pds(28, d, true, !whole),
+        form: Form {
+            grid: Some(grid),
+            bitmap,
+            flags: 0,
+            bits,
+        },
+        e,
+        r,
+        values: points.iter().map(|point| point.unwrap_or(0)).collect(),
+        marks: points
+            .iter()
+            .map(|point| u8::from(point.is_some()))
+            .collect(),
+        ..Parts::default()
+    }
+}
+
+fn message(parts: &Parts) -> Vec<u8> {
+    let mut out = vec![0; 262_144];
+    let (reply, length) = write(parts, &mut out);
+    assert_eq!(reply, 0, "made to be written");
+    out.truncate(length as usize);
+    out
+}
+
+/// The chart of the scanning cases, in message order for each setting of the
+/// flags: 3 columns and 2 rows, the same picture each time.
+fn scanned(scan: u8) -> Vec<u8> {
+    const CHART: [[Option<u32>; 3]; 2] = [[Some(1), None, Some(30)], [Some(400), Some(0), None]];
+    let (west, north, by_column) = (scan & 128 != 0, scan & 64 != 0, scan & 32 != 0);
+    let columns: Vec<usize> = if west { vec![2, 1, 0] } else { vec![0, 1, 2] };
+    let rows: Vec<usize> = if north { vec![1, 0] } else { vec![0, 1] };
+    let mut points = Vec::new();
+    if by_column {
+        for &column in &columns {
+            for &row in &rows {
+                points.push(CHART[row][column]);
+            }
+        }
+    } else {
+        for &row in &rows {
+            for &column in &columns {
+                points.push(CHART[row][column]);
+            }
+        }
+    }
+    message(&parts(1, grid(3, 2, scan), 0, 0x439C_4000, 9, &points))
+}
+
+/// A message of four points that all tests below damage.
+fn small() -> Vec<u8> {
+    let points = [None, Some(7), Some(0), Some(2)];
+    message(&parts(1, grid(2, 2, 0), 0, 0x439C_4000, 3, &points))
+}
+
+/// The small message with an octet, counted from 1 as the document counts, set.
+fn with(octet: usize, value: u8) -> Vec<u8> {
+    let mut octets = small();
+    octets[octet - 1] = value;
+    octets
+}
+
+/// A message with no GDS, of grid 29 of the catalogue.
+fn catalogued() -> Vec<u8> {
+    let mut listed = parts(0, grid(145, 37, 64), 0, 0, 0, &[Some(0); 5_365]);
+    listed.form.grid = None;
+    listed.pds[6] = 29;
+    listed.pds[7] = 0;
+    message(&listed)
+}
+
+/// A message of so many octets: one octet for each value, more points than the
+/// program lends room for.
+fn long(octets: usize, ni: u16, nj: u16) -> Vec<u8> {
+    let points = vec![Some(0); ni as usize * nj as usize];
+    let octets_made = message(&parts(0, grid(ni, nj, 0), 0, 0, 8, &points));
+    assert_eq!(octets_made.len(), octets);
+    octets_made
+}
+
+fn cases() -> Vec<(String, Vec<u8>)> {
+    let mut cases: Vec<(String, Vec<u8>)> = Vec::new();
+    let mut case = |name: &str, octets: Vec<u8>| cases.push((name.to_string(), octets));
+
+    // where each section of the small message starts, counted from 1
+    let (pds, gds, bms, bds) = (9, 37, 69, 77);
+    case("taken", small());
+    case("refused_1_empty", Vec::new());
+    case("refused_1_short", b"GRIB\0\0\x07".to_vec());
+    case("refused_2", with(4, b'X'));
+    case("refused_3", with(8, 2));
+    case("refused_4_total", with(7, 1));
+    case("refused_4_end", with(small().len(), b'8'));
+    case("refused_5_odd", with(pds + 2, 29));
+    case("refused_5_past_end", with(gds + 1, 1));
+    case("refused_6", with(pds + 13, 13));
+    case("refused_7", {
+        let mut octets = catalogued();
+        octets[pds + 5] = 28;
+        octets
+    });
+    case("refused_8", with(gds + 4, 0));
+    case("refused_9", with(gds + 27, 64));
+    case("refused_10_unused", with(bms + 3, 11));
+    case("refused_10_not_stored", {
+        let points = [Some(1), Some(2)];
+        let mut stored = parts(0, grid(2, 1, 0), 0, 0, 3, &points);
+        stored.form.bitmap = BitmapKind::Stored(9);
+        stored.pds[7] = 192;
+        stored.lent.number = 9;
+        stored.lent.octets = vec![192];
+        message(&stored)
+    });
+    case("refused_11", with(bds + 10, 25));
+    case("refused_12", with(bds + 10, 4));
+
+    for scan in 0..8u8 {
+        case(&format!("scan_{:03}", scan * 32), scanned(scan * 32));
+    }
+
+    let one = |d, e, r, bits, value| message(&parts(d, grid(1, 1, 0), e, r, bits, &[Some(value)]));
+    case("negative", one(-2, -32_767, 0xC110_0000, 24, 16_777_215));
+    case("largest", one(32_767, 32_767, 0xFFFF_FFFF, 24, 10_000_000));
+    case("minus_zero", {
+        let mut octets = one(0, 0, 0x8000_0000, 1, 1);
+        octets[pds + 25] = 128;
+        // without a bitmap section the data section starts at 69
+        octets[69 + 3] = 128;
+        octets
+    });
+    case(
+        "no_bits",
+        message(&parts(0, grid(3, 1, 0), 0, 0, 0, &[Some(0); 3])),
+    );
+    case(
+        "all_absent",
+        message(&parts(3, grid(2, 3, 64), 5, 0, 10, &[None; 6])),
+    );
+    case(
+        "one_column",
+        message(&parts(
+            0,
+            grid(1, 4, 64),
+            0,
+            0,
+            7,
+            &[Some(9), Some(10), Some(99), Some(100)],
+        )),
+    );
+    case("long_pds", {
+        let mut wide = parts(-1, grid(2, 1, 128), 0, 0, 12, &[Some(999), Some(1_000)]);
+        wide.pds = self::pds(1_024, -1, true, false);
+        message(&wide)
+    });
+
+    let mut rng = Rng::new(1);
+    let points: Vec<Option<u32>> = (0..4_096)
+        .map(|_| Some((rng.draw() % (1 << 24)) as u32))
+        .collect();
+    case(
+        "points_4096",
+        message(&parts(0, grid(64, 64, 0), 0, 0, 24, &points)),
+    );
+    case(
+        "refused_14_points_4097",
+        message(&parts(0, grid(17, 241, 0), 0, 0, 0, &[Some(0); 4_097])),
+    );
+    case("refused_14_catalogue", catalogued());
+
+    // 32,685 and 32,687 values of one octet; then an octet after a message
+    case("refused_14_octets_32768", long(32_768, 15, 2_179));
+    case("refused_1_octets_32769", {
+        let mut octets = long(32_768, 15, 2_179);
+        octets.push(0);
+        octets
+    });
+    case("refused_1_octets_32770", long(32_770, 32_687, 1));
+    cases
+}
+
+fn run(out: &str) -> std::io::Result<()> {
+    let data = format!("{out}/data");
+    std::fs::create_dir_all(&data)?;
+    let (mut args, mut stdout) = (String::new(), String::new());
+    for (name, octets) in cases() {
+        std::fs::write(format!("{data}/{name}"), &octets)?;
+        let text = listing(&octets);
+        match name.strip_prefix("refused_") {
+            Some(rest) => {
+                let number = rest.split('_').next().unwrap_or(rest);
+                assert_eq!(text, format!("refused {number}\n"), "{name}");
+            }
+            None => assert!(!text.starts_with("refused"), "{name}"),
+        }
+        args.push_str(&format!("{name}\n"));
+        stdout.push_str(&format!("== {name}\n{text}"));
+    }
+    std::fs::write(format!("{out}/args"), args)?;
+    std::fs::write(format!("{out}/stdout"), stdout)
+}
+
+fn main() -> ExitCode {
+    let words: Vec<String> = std::env::args().skip(1).collect();
+    let [out] = words.as_slice() else {
+        eprintln!("usage: listings DIR");
+        return ExitCode::FAILURE;
+    };
+    match run(out) {
+        Ok(()) => ExitCode::SUCCESS,
+        Err(error) => {
+            eprintln!("{error}");
+            ExitCode::FAILURE
+        }
+    }
+}

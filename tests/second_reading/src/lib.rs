@@ -1,0 +1,161 @@
+//! A second reading of the rules.
+//!
+//! This package computes, slowly and literally, what document 01 ("Definition
+//! of the build and its rules") says a GRIB Edition 1 codec must answer. It was
+//! written from document 01 alone, with the list of open points deciding where
+//! the document leaves room for two readings. It shares nothing with the codec
+//! it is used to test: no code, no constants, no tricks. Wherever a person with
+//! paper and pencil would write out bits, the code here writes out bits.
+//!
+//! The modules follow the document:
+//!
+//! * `bits`    octets, bits and signed numbers;
+//! * `grid`    the catalogue, the grid rules, rows and columns;
+//! * `time`    the time rules;
+//! * `read`    replies 1 to 12 and 14, the header, the parts of a message;
+//! * `display` R and 2^E as IEEE doubles;
+//! * `write`   the writer;
+//! * `check`   the checker;
+//! * `pack`    the packer;
+//! * `list`    the listing program;
+//! * `cases`   seeded cases for the four big functions;
+//! * `antt`    the cases printed as statements of a proof language.
+//! * `vectors` messages at each edge, with the replies written by hand.
+
+pub mod antt;
+pub mod bits;
+pub mod cases;
+pub mod check;
+pub mod display;
+pub mod grid;
+pub mod list;
+pub mod pack;
+pub mod read;
+pub mod time;
+pub mod vectors;
+pub mod write;
+
+pub use check::check;
+pub use display::display;
+pub use grid::{place_of, point_at};
+pub use list::listing;
+pub use pack::pack;
+pub use read::{bitmap_in_force, data_number, header, read, section};
+pub use write::write;
+
+/// A part of a slice: where it starts (counted from 0) and how long it is.
+#[derive(Clone, Copy, PartialEq, Eq, Debug, Default)]
+pub struct Part {
+    pub start: u32,
+    pub len: u32,
+}
+
+/// Where the four sections between the indicator and the end lie. An absent
+/// section has length 0 and starts where the walk has got to.
+#[derive(Clone, Copy, PartialEq, Eq, Debug, Default)]
+pub struct Places {
+    pub pds: Part,
+    pub gds: Part,
+    pub bms: Part,
+    pub bds: Part,
+}
+
+/// The time in the PDS, with the full year.
+#[derive(Clone, Copy, PartialEq, Eq, Debug, Default)]
+pub struct Time {
+    pub year: u32,
+    pub month: u32,
+    pub day: u32,
+    pub hour: u32,
+    pub minute: u32,
+}
+
+/// The numbers of a latitude/longitude grid.
+#[derive(Clone, Copy, PartialEq, Eq, Debug, Default)]
+pub struct Grid {
+    pub ni: u16,
+    pub nj: u16,
+    pub la1: i32,
+    pub lo1: i32,
+    pub flags: u8,
+    pub la2: i32,
+    pub lo2: i32,
+    pub di: u16,
+    pub dj: u16,
+    pub scan: u8,
+}
+
+/// No bitmap, one carried in the message, or a stored one with its number.
+#[derive(Clone, Copy, PartialEq, Eq, Debug, Default)]
+pub enum BitmapKind {
+    #[default]
+    Without,
+    Carried,
+    Stored(u16),
+}
+
+/// "the bitmap is the one the caller lends with each message, one number and
+/// whole octets". No stored bitmap is number 0 and no octets.
+#[derive(Clone, PartialEq, Eq, Debug, Default)]
+pub struct Lent {
+    pub number: u16,
+    pub octets: Vec<u8>,
+}
+
+/// All that reading a message tells, besides the values and the marks.
+#[derive(Clone, Copy, PartialEq, Eq, Debug, Default)]
+pub struct Header {
+    pub reply: u32,
+    pub places: Places,
+    pub time: Time,
+    pub d: i32,
+    pub grid: Grid,
+    pub points: u32,
+    pub bitmap: BitmapKind,
+    pub present: u32,
+    /// The high half of BDS octet 4, 0 to 15.
+    pub flags: u8,
+    /// Bits per value, N.
+    pub bits: u8,
+    pub e: i32,
+    pub r: u32,
+}
+
+/// What a grid point's data number is.
+#[derive(Clone, Copy, PartialEq, Eq, Debug)]
+pub enum DataNumber {
+    Present(u32),
+    Absent,
+    Outside,
+}
+
+/// The caller's choices that the writer and the packer share.
+#[derive(Clone, Copy, PartialEq, Eq, Debug, Default)]
+pub struct Form {
+    pub grid: Option<Grid>,
+    pub bitmap: BitmapKind,
+    /// The value of the four flag bits of BDS octet 4; bit 3 is worth 2.
+    pub flags: u8,
+    /// Bits per value, N.
+    pub bits: u8,
+}
+
+/// All that the writer is given.
+#[derive(Clone, PartialEq, Eq, Debug, Default)]
+pub struct Parts {
+    pub pds: Vec<u8>,
+    pub form: Form,
+    pub e: i32,
+    pub r: u32,
+    pub lent: Lent,
+    pub values: Vec<u32>,
+    pub marks: Vec<u8>,
+}
+
+/// A source field: whole numbers at a stated decimal scale, and their marks.
+#[derive(Clone, PartialEq, Eq, Debug, Default)]
+pub struct Source {
+    pub numbers: Vec<i32>,
+    pub marks: Vec<u8>,
+    pub d: i32,
+}

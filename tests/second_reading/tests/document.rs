@@ -1,0 +1,476 @@
+//! Every example that document 01 gives, and the cases at each edge.
+
+use second_reading::*;
+
+const SPECIMEN: &str = "47524942 00005E 01
+    00001C 03 07 00 FF C0 0B 64 01F4 62030A0600 01 00 00 00 0000 00 14 00 0001
+    000020 00 FF 00 0002 0002 00C350 8007D0 80 00C738 8003E8 03E8 03E8 40 00000000
+    000008 0C 0000 D000
+    00000E 0F 0000 439C4000 03 0B8000
+    37373737";
+
+fn from_hex(text: &str) -> Vec<u8> {
+    let digits: Vec<u8> = text
+        .chars()
+        .filter_map(|c| c.to_digit(16))
+        .map(|d| d as u8)
+        .collect();
+    digits.chunks(2).map(|two| 16 * two[0] + two[1]).collect()
+}
+
+fn specimen() -> Vec<u8> {
+    from_hex(SPECIMEN)
+}
+
+fn none() -> Lent {
+    Lent::default()
+}
+
+fn specimen_grid() -> Grid {
+    Grid {
+        ni: 2,
+        nj: 2,
+        la1: 50_000,
+        lo1: -2_000,
+        flags: 128,
+        la2: 51_000,
+        lo2: -1_000,
+        di: 1_000,
+        dj: 1_000,
+        scan: 64,
+    }
+}
+
+fn specimen_header() -> Header {
+    Header {
+        reply: 0,
+        places: Places {
+            pds: Part { start: 8, len: 28 },
+            gds: Part { start: 36, len: 32 },
+            bms: Part { start: 68, len: 8 },
+            bds: Part { start: 76, len: 14 },
+        },
+        time: Time {
+            year: 1998,
+            month: 3,
+            day: 10,
+            hour: 6,
+            minute: 0,
+        },
+        d: 1,
+        grid: specimen_grid(),
+        points: 4,
+        bitmap: BitmapKind::Carried,
+        present: 3,
+        flags: 0,
+        bits: 3,
+        e: 0,
+        r: 0x439C4000,
+    }
+}
+
+fn specimen_form() -> Form {
+    Form {
+        grid: Some(specimen_grid()),
+        bitmap: BitmapKind::Carried,
+        flags: 0,
+        bits: 3,
+    }
+}
+
+fn specimen_parts() -> Parts {
+    Parts {
+        pds: specimen()[8..36].to_vec(),
+        form: specimen_form(),
+        e: 0,
+        r: 0x439C4000,
+        lent: none(),
+        values: vec![0, 2, 0, 7],
+        marks: vec![1, 1, 0, 1],
+    }
+}
+
+fn specimen_source() -> Source {
+    Source {
+        numbers: vec![2_500, 2_502, -77, 2_507],
+        marks: vec![1, 1, 0, 1],
+        d: 1,
+    }
+}
+
+/// A message of `ni` by `nj` points with no bitmap and constant data.
+fn constant(ni: u16, nj: u16) -> Vec<u8> {
+    let mut message = specimen()[..68].to_vec();
+    message[8 + 7] = 0x80;
+    message[36 + 6..36 + 8].copy_from_slice(&ni.to_be_bytes());
+    message[36 + 8..36 + 10].copy_from_slice(&nj.to_be_bytes());
+    message.extend(from_hex("00000C 08 0000 00000000 00 00 37373737"));
+    message[6] = message.len() as u8;
+    message
+}
+
+#[test]
+fn the_specimen_is_read() {
+    assert_eq!(specimen().len(), 94);
+    assert_eq!(header(&specimen(), &none()), specimen_header());
+    let mut values = [9; 6];
+    let mut marks = [9; 5];
+    let header = read(&specimen(), 0, &[], &mut values, &mut marks);
+    assert_eq!(header, specimen_header());
+    assert_eq!(values, [0, 2, 0, 7, 9, 9]);
+    assert_eq!(marks, [1, 1, 0, 1, 9]);
+}
+
+#[test]
+fn short_lists_are_14_and_stay() {
+    for (v, m) in [(3, 4), (4, 3), (0, 0)] {
+        let mut values = vec![9; v];
+        let mut marks = vec![9; m];
+        let header = read(&specimen(), 0, &[], &mut values, &mut marks);
+        assert_eq!(
+            header,
+            Header {
+                reply: 14,
+                ..Header::default()
+            }
+        );
+        assert!(values.iter().all(|&x| x == 9) && marks.iter().all(|&x| x == 9));
+    }
+}
+
+#[test]
+fn the_parts_of_the_specimen() {
+    let parts: Vec<(u32, u32)> = (0..8)
+        .map(|k| section(&specimen(), &none(), k))
+        .map(|part| (part.start, part.len))
+        .collect();
+    assert_eq!(
+        parts,
+        [
+            (0, 8),
+            (8, 28),
+            (36, 32),
+            (68, 8),
+            (76, 14),
+            (90, 4),
+            (0, 0),
+            (0, 0)
+        ]
+    );
+    assert_eq!(
+        bitmap_in_force(&specimen(), &none()),
+        (false, Part { start: 74, len: 1 })
+    );
+    let mut broken = specimen();
+    broken[93] = b'8';
+    for k in 0..7 {
+        assert_eq!(section(&broken, &none(), k), Part::default());
+    }
+    assert_eq!(bitmap_in_force(&broken, &none()), (false, Part::default()));
+    // An absent section is the empty part at the message's start.
+    let message = constant(2, 2);
+    assert_eq!(section(&message, &none(), 3), Part::default());
+    assert_eq!(section(&message, &none(), 4), Part { start: 68, len: 12 });
+    assert_eq!(
+        header(&message, &none()).places.bms,
+        Part { start: 68, len: 0 }
+    );
+    assert_eq!(bitmap_in_force(&message, &none()), (false, Part::default()));
+}
+
+#[test]
+fn data_numbers_of_the_specimen() {
+    let numbers: Vec<DataNumber> = (0..5)
+        .map(|point| data_number(&specimen(), &none(), point))
+        .collect();
+    assert_eq!(
+        numbers,
+        [
+            DataNumber::Present(0),
+            DataNumber::Present(1),
+            DataNumber::Absent,
+            DataNumber::Present(2),
+            DataNumber::Outside
+        ]
+    );
+    assert_eq!(
+        data_number(&constant(2, 2), &none(), 3),
+        DataNumber::Present(3)
+    );
+    assert_eq!(data_number(&[], &none(), 0), DataNumber::Outside);
+}
+
+#[test]
+fn the_specimen_is_displayed() {
+    let (reply, reference, step) = display(&specimen(), &none());
+    assert_eq!(reply, 0);
+    assert_eq!(f64::from_bits(reference), 2_500.0);
+    assert_eq!(f64::from_bits(step), 1.0);
+    for (octets, reply, step) in [
+        ([0x83, 0xFE], 0, 2f64.powi(-1_022)),
+        ([0x83, 0xFF], 16, 0.0),
+        ([0x03, 0xFF], 0, 2f64.powi(1_023)),
+        ([0x04, 0x00], 16, 0.0),
+        ([0x80, 0x00], 0, 1.0),
+    ] {
+        let mut message = specimen();
+        message[80..82].copy_from_slice(&octets);
+        let shown = display(&message, &none());
+        assert_eq!(shown.0, reply);
+        assert_eq!(shown.1, if reply == 0 { 2_500f64.to_bits() } else { 0 });
+        assert_eq!(shown.2, step.to_bits());
+    }
+    assert_eq!(display(&[], &none()), (1, 0, 0));
+}
+
+#[test]
+fn the_specimen_is_listed() {
+    assert_eq!(listing(&specimen()), "4 3 2 2 1 0 439c4000 3\n- 7\n0 2\n");
+    assert_eq!(listing(&[]), "refused 1\n");
+    assert_eq!(listing(&vec![0; 32_768]), "refused 2\n");
+    assert_eq!(listing(&vec![0; 32_769]), "refused 1\n");
+    assert_eq!(listing(&constant(64, 65)), "refused 14\n");
+    assert!(listing(&constant(64, 64)).starts_with("4096 4096 64 64 1 0 00000000 0\n0 0 "));
+}
+
+#[test]
+fn the_specimen_is_written() {
+    let mut out = [0xAA; 96];
+    assert_eq!(write(&specimen_parts(), &mut out), (0, 94));
+    assert_eq!(out[..94], specimen()[..]);
+    assert_eq!(out[94..], [0xAA, 0xAA]);
+    let mut out = [0xAA; 93];
+    assert_eq!(write(&specimen_parts(), &mut out), (14, 0));
+    assert_eq!(out, [0xAA; 93]);
+}
+
+#[test]
+fn the_specimen_is_packed_and_checked() {
+    let mut out = [0xAA; 96];
+    let pds = &specimen()[8..36];
+    let source = specimen_source();
+    let packed = pack(pds, &specimen_form(), &none(), &source, &mut out);
+    assert_eq!(packed, (0, 94));
+    assert_eq!(out[..94], specimen()[..]);
+    let judge = |source: &Source| {
+        check(
+            &specimen(),
+            &none(),
+            &source.numbers,
+            &source.marks,
+            source.d,
+        )
+    };
+    assert_eq!(judge(&source), 0);
+    let mut other = source.clone();
+    other.d = 2;
+    assert_eq!(judge(&other), 15);
+    other = source.clone();
+    other.numbers[1] += 1;
+    assert_eq!(judge(&other), 17);
+    other = source.clone();
+    other.marks[2] = 1;
+    assert_eq!(judge(&other), 15);
+    other = source.clone();
+    other.marks[2] = 2;
+    assert_eq!(judge(&other), 18);
+    other = source.clone();
+    other.numbers[0] = 8_388_608;
+    assert_eq!(judge(&other), 18);
+    other = source.clone();
+    other.numbers[2] = i32::MIN;
+    assert_eq!(judge(&other), 0);
+}
+
+#[test]
+fn the_slice_and_the_end() {
+    assert_eq!(header(&[], &none()).reply, 1);
+    assert_eq!(header(b"GRIB\0\0\x07", &none()).reply, 1);
+    assert_eq!(header(b"GRIB\0\0\x08\x01", &none()).reply, 4);
+    assert_eq!(header(&vec![0; 262_145], &none()).reply, 1);
+    assert_eq!(header(&vec![0; 262_144], &none()).reply, 2);
+    // Twelve octets are an indicator and an end with nothing between: 5.
+    assert_eq!(header(b"GRIB\0\0\x0C\x017777", &none()).reply, 5);
+    let mut message = specimen();
+    message[7] = 2;
+    assert_eq!(header(&message, &none()).reply, 3);
+    message[0] = b'g';
+    assert_eq!(header(&message, &none()).reply, 2);
+}
+
+#[test]
+fn the_order_of_5_and_8() {
+    let mut message = specimen();
+    message.splice(68..68, [0, 0]);
+    message[6] = 96;
+    assert_eq!(header(&message, &none()).reply, 5);
+    message[38] = 34;
+    assert_eq!(header(&message, &none()).reply, 8);
+    message[38] = 33;
+    assert_eq!(header(&message, &none()).reply, 5);
+}
+
+#[test]
+fn points_at_the_edge() {
+    let header = |ni, nj| header(&constant(ni, nj), &none());
+    assert_eq!(header(256, 256).reply, 0);
+    assert_eq!(header(256, 256).points, 65_536);
+    assert_eq!(header(257, 256).reply, 9);
+    assert_eq!(header(65_534, 1).reply, 0);
+    assert_eq!(header(65_535, 1).reply, 9);
+    assert_eq!(header(0, 1).reply, 9);
+}
+
+#[test]
+fn no_data_bits() {
+    // "m x N = 0: L = 12, unused 8."
+    let good = constant(2, 2);
+    assert_eq!(header(&good, &none()).reply, 0);
+    let mut other = good.clone();
+    other[68 + 3] = 7;
+    assert_eq!(header(&other, &none()).reply, 12);
+    other[68 + 3] = 0x28;
+    assert_eq!(header(&other, &none()).flags, 2);
+    let mut parts = specimen_parts();
+    parts.values = vec![0; 4];
+    parts.marks = vec![0; 4];
+    let mut out = [0; 100];
+    assert_eq!(write(&parts, &mut out), (0, 92));
+    assert_eq!(out[76..88], from_hex("00000C 08 0000 439C4000 03 00")[..]);
+}
+
+#[test]
+fn spread_at_the_edge() {
+    // "Spread 8,388,607 with N = 0: E = 24; one more: 19."
+    let mut form = specimen_form();
+    form.bits = 0;
+    let mut source = specimen_source();
+    source.numbers = vec![-1, 8_388_606, i32::MAX, 5];
+    let mut out = [0; 100];
+    let pds = &specimen()[8..36];
+    assert_eq!(pack(pds, &form, &none(), &source, &mut out), (0, 92));
+    let read_back = header(&out[..92], &none());
+    assert_eq!((read_back.e, read_back.r), (24, 0xC1100000));
+    let Source { numbers, marks, d } = &source;
+    assert_eq!(check(&out[..92], &none(), numbers, marks, *d), 0);
+    source.numbers[1] += 1;
+    assert_eq!(pack(pds, &form, &none(), &source, &mut out), (19, 0));
+}
+
+#[test]
+fn no_present_point() {
+    let source = Source {
+        numbers: vec![7, 8, 9, i32::MIN],
+        marks: vec![0; 4],
+        d: 1,
+    };
+    let mut out = [0; 92];
+    let pds = &specimen()[8..36];
+    let packed = pack(pds, &specimen_form(), &none(), &source, &mut out);
+    assert_eq!(packed, (0, 92));
+    let read_back = header(&out, &none());
+    assert_eq!((read_back.e, read_back.r, read_back.present), (0, 0, 0));
+}
+
+#[test]
+fn stored_bitmaps() {
+    let lent = Lent {
+        number: 7,
+        octets: vec![0xDF],
+    };
+    let mut parts = specimen_parts();
+    parts.form.bitmap = BitmapKind::Stored(7);
+    parts.lent = lent.clone();
+    let mut out = [0; 92];
+    assert_eq!(write(&parts, &mut out), (0, 92));
+    assert_eq!(out[68..74], [0, 0, 6, 0, 0, 7]);
+    let read_back = header(&out, &lent);
+    assert_eq!(read_back.bitmap, BitmapKind::Stored(7));
+    assert_eq!(read_back.present, 3);
+    assert_eq!(
+        bitmap_in_force(&out, &lent),
+        (true, Part { start: 0, len: 1 })
+    );
+    assert_eq!(header(&out, &none()).reply, 10);
+    // Number 0, a wrong number, too few octets: 10 whatever the lists are.
+    let reply = |parts: &Parts| write(parts, &mut [0; 92]).0;
+    let mut other = parts.clone();
+    other.form.bitmap = BitmapKind::Stored(0);
+    other.lent.number = 0;
+    assert_eq!(reply(&other), 10);
+    other = parts.clone();
+    other.lent.number = 8;
+    assert_eq!(reply(&other), 10);
+    other = parts.clone();
+    other.lent.octets.clear();
+    other.values.clear();
+    assert_eq!(reply(&other), 10);
+    // Bits are compared with marks only where both lists are n long.
+    other = parts.clone();
+    other.marks[0] = 0;
+    assert_eq!(reply(&other), 10);
+    other.marks[0] = 2;
+    assert_eq!(reply(&other), 10);
+    other.values.push(0);
+    assert_eq!(reply(&other), 13);
+}
+
+#[test]
+fn pds_longer_than_28() {
+    let mut parts = specimen_parts();
+    parts.pds.extend([1, 2, 3, 4]);
+    parts.pds[2] = 32;
+    let mut out = [0; 98];
+    assert_eq!(write(&parts, &mut out), (0, 98));
+    let read_back = header(&out, &none());
+    assert_eq!(read_back.places.pds, Part { start: 8, len: 32 });
+    assert_eq!(read_back.grid, specimen_grid());
+}
+
+#[test]
+fn a_catalogue_grid() {
+    let mut message = specimen()[..36].to_vec();
+    message[8 + 6] = 30;
+    message[8 + 7] = 0;
+    message.extend(from_hex("00000C 08 0000 00000000 00 00 37373737"));
+    message[6] = message.len() as u8;
+    let taken = header(&message, &none());
+    assert_eq!(
+        (taken.reply, taken.points, taken.present),
+        (0, 5_365, 5_365)
+    );
+    assert_eq!(taken.places.gds, Part { start: 36, len: 0 });
+    assert_eq!(taken.grid.la1, -90_000);
+    message[8 + 6] = 31;
+    assert_eq!(header(&message, &none()).reply, 7);
+}
+
+#[test]
+fn what_the_writer_refuses_by_13() {
+    let reply = |change: &dyn Fn(&mut Parts)| {
+        let mut parts = specimen_parts();
+        change(&mut parts);
+        let mut out = [0xAA; 100];
+        let (reply, length) = write(&parts, &mut out);
+        assert!(reply == 0 || (length == 0 && out == [0xAA; 100]));
+        reply
+    };
+    assert_eq!(reply(&|_| ()), 0);
+    assert_eq!(reply(&|p| p.values.push(0)), 13);
+    assert_eq!(reply(&|p| p.marks.push(0)), 13);
+    assert_eq!(reply(&|p| p.marks[0] = 2), 13);
+    assert_eq!(reply(&|p| p.values[0] = 8), 13);
+    assert_eq!(reply(&|p| p.values[2] = 1), 13);
+    assert_eq!(reply(&|p| p.pds[7] = 0x40), 13);
+    assert_eq!(reply(&|p| p.pds[7] = 0x80), 13);
+    assert_eq!(reply(&|p| p.pds[7] = 0xFF), 0);
+    assert_eq!(reply(&|p| p.form.bitmap = BitmapKind::Without), 13);
+    assert_eq!(reply(&|p| p.form.grid = None), 7);
+    assert_eq!(reply(&|p| p.form.flags = 2), 0);
+    assert_eq!(reply(&|p| p.form.flags = 1), 11);
+    assert_eq!(reply(&|p| p.form.flags = 16), 11);
+    assert_eq!(reply(&|p| p.form.bits = 25), 11);
+    assert_eq!(reply(&|p| p.e = 32_768), 11);
+    assert_eq!(reply(&|p| p.e = -32_768), 11);
+    assert_eq!(reply(&|p| p.e = -32_767), 0);
+}
