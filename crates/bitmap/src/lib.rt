@@ -6,11 +6,11 @@ ghost use Rattle.bits.specs.Bits.{count, octetsFor};
 ghost use Rattle.rules.specs.declared.Bitmap.the-variants.{Without, Carried, Stored};
 ghost use Rattle.rules.specs.Bitmap.{bitmapAt, bitmapFaults, inForce, bitmapOctets, presentBy};
 use octets::octet;
-use octets::ones;
 use octets::two;
 use reply::less;
 use rules::Bitmap;
 use rules::Part;
+use runs::ones;
 
 // What the bitmap section at a place says, where there is one.
 pub fn bitmap_at(s: &[u8], there: bool, b: u32) -> Bitmap

@@ -3,7 +3,7 @@ use Prim.Native.Nat.{ℕ, _+_}
 use mathlib.Core.Bool.{cond}
 use mathlib.Core.List.{List}
 use lib.Dec.{leb}
-use Rattle.octets.specs.Pack.{fetched}
+use Rattle.runs.specs.Take.{fetched}
 use Rattle.bitreader.specs.declared.{Taken.Taken}
 
 -- the greatest place that 32 bits hold: a message's bits end long before it

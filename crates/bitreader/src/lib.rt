@@ -1,8 +1,8 @@
-// A reader of bits: the data octets and the bit place reached in them. Thin over `octets::fetch`; whoever calls `take` holds no
+// A reader of bits: the data octets and the bit place reached in them. Thin over `runs::fetch`; whoever calls `take` holds no
 // reference in a struct. All total: past the end a bit is 0, and a number of more than 32 bits is 0.
 ghost use mathlib.Core.Path.{_≡_};
 ghost use Rattle.bitreader.specs.Taken.{takenAt, reached as theReached};
-use octets::fetch;
+use runs::fetch;
 
 // The data octets, and the bit place reached in them.
 pub struct BitReader<'a> {

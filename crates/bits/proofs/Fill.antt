@@ -10,6 +10,7 @@ use native.Mathlib.Omega.{arith}
 use lib.ListN.{length, getD, set, drop, length-append, length-drop, List·getD-append}
 use lib.Seq.{drop-cons, set-at, getD-at, ext-getD}
 use Rattle.bits.specs.Tables.{tab, anyBelow}
+use Rattle.bits.proofs.Tests.{or-left, or-right}
 
 pub length-tab : (g : ℕ → ℕ) (m : ℕ) → length (tab g m) ≡ m
 unfolding tab
@@ -53,17 +54,9 @@ pub none-below : (f : ℕ → Bool) (n : ℕ) → anyBelow f n ≡ false → (k 
 unfolding anyBelow
 none-below f zero e k h = absurd (not-suc-le-zero h)
 none-below f (suc n) e k h = ⊎-elim
-    (λ z. ap f z ∙ second (anyBelow f n) (f n) e)
-    (λ l. none-below f n (first (anyBelow f n) (f n) e) k l)
+    (λ z. ap f z ∙ or-right (anyBelow f n) (f n) e)
+    (λ l. none-below f n (or-left (anyBelow f n) (f n) e) k l)
     (eq-or-lt-of-le (le-of-suc-le-suc h))
-  where
-    first : (a b : Bool) → a || b ≡ false → a ≡ false
-    first true b e = e
-    first false b e = refl
-
-    second : (a b : Bool) → a || b ≡ false → b ≡ false
-    second true b e = let z : _≡_ {A = ℕ} 0 1 = cc in absurd (omega arith)
-    second false b e = e
 
 -- and where each fails it, none passes
 pub all-fail : (f : ℕ → Bool) (n : ℕ) → ((k : ℕ) → k < n → f k ≡ false) → anyBelow f n ≡ false

@@ -12,3 +12,4 @@ pub mod Marks
 pub mod Words
 pub mod Unpack
 pub mod Kept
+pub mod Tests

@@ -1,4 +1,4 @@
-// The functions of `octets` over runs of bits beside a computation that takes one bit at a time, at every width from 0 to 24 and every bit
+// The functions of `runs` and `puts` beside a computation that takes one bit at a time, at every width from 0 to 24 and every bit
 // offset from 0 to 7. Each check answers how many things differ.
 ghost use mathlib.Core.Path.{_≡_};
 ghost use Prim.Native.Nat.{_+_, _*_, _<_, _≤_};
@@ -87,7 +87,7 @@ fn fetch_differs(s: &[u8], n: u8, o: u8) -> u32
     let mut k: u32 = 0;
     let mut place: u32 = o as u32;
     while k < 5 {
-        wrong += differs(s, place as usize, n, octets::fetch(s, place, n));
+        wrong += differs(s, place as usize, n, runs::fetch(s, place, n));
         place += 4 * n as u32;
         k += 1;
     }
@@ -104,7 +104,7 @@ fn pack_differs(vs: &[u32], n: u8, out: &mut [u8]) -> u32
     let ends = vs.len() * n as usize;
     let pads = (ends + 7) / 8 * 8;
     let bits = out.len() * 8;
-    if octets::pack(vs, n, out) {
+    if puts::pack(vs, n, out) {
         return values_differ(out, 0, n, vs)
             + bits_differ(out, &zeros, ends, pads)
             + bits_differ(out, &ones, pads, bits);
@@ -133,7 +133,7 @@ fn put_differs(s: &[u8], n: u8, from: u32, v: u32, out: &mut [u8]) -> u32
     let ends = place + n as usize;
     let pads = (ends + 7) / 8 * 8;
     let bits = out.len() * 8;
-    if octets::put_bits(out, from, n, v) {
+    if puts::put_bits(out, from, n, v) {
         return bits_differ(out, s, 0, place)
             + differs(out, place, n, v)
             + bits_differ(out, &zeros, ends, pads)
@@ -195,10 +195,10 @@ fn beside(n: u8, o: u8) -> u32
     let mut out = [255u8; 64];
     let room = (17 * n as usize + 7) / 8 + o as usize;
     let bits = n as u32 * 14 + o as u32;
-    if !octets::unpack(&s, o as u32, n, &mut vs, 17) {
+    if !runs::unpack(&s, o as u32, n, &mut vs, 17) {
         return 1;
     }
-    if octets::ones(&s, o as usize, bits) != ones(&s, o as usize, bits) {
+    if runs::ones(&s, o as usize, bits) != ones(&s, o as usize, bits) {
         return 1;
     }
     let wrong = values_differ(&s, o as usize, n, &vs) + fetch_differs(&s, n, o);

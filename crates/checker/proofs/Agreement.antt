@@ -1,48 +1,60 @@
--- The marks of a message, by its kind of bitmap, and those of a source: one point's test, and all of them.
-use mathlib.Core.Path.{_≡_, ap, ap₂, _∙_}
-use mathlib.Core.Bool.{Bool, not, _||_}
+-- The message's mark of a point: its bit as code takes it, and which octets it is a bit of, by the kind of the bitmap.
+use mathlib.Core.Path.{_≡_, refl, ap, ap₂, _∙_}
+use mathlib.Core.Bool.{Bool, true, false, not}
 use mathlib.Core.List.{List}
-use Prim.Native.Nat.{ℕ, _+_, _-_, _*_, _/_, _%_, _^_}
+use Prim.Native.Nat.{ℕ, _+_, _-_, _*_, _/_, _%_, _^_, _<_}
 use native.Mathlib.Nat.{zero-add}
 use native.Mathlib.Omega.{arith}
 use lib.Dec.{eqb}
+use lib.IntN.{ℤ}
 use lib.ListN.{length, getD}
 use Rattle.bits.specs.Bits.{bitOf, bitsIn}
 use Rattle.bits.specs.Tables.{anyBelow}
-use Rattle.bits.proofs.Below.{any-next, any-ext}
+use Rattle.bits.proofs.Below.{any-ext}
 use Rattle.bitmap.proofs.Laws.{bit-part}
 use Rattle.rules.specs.declared.{Part.Part, Bitmap.Bitmap, Bitmap.the-variants.Without, Bitmap.the-variants.Carried, Bitmap.the-variants.Stored}
 use Rattle.rules.specs.Bitmap.{markOf, presentBy, bitmapOctets, inForce}
+use Rattle.checker.specs.Points.{Seen, markIn, out}
 
--- a point's mark is not its bit, the first of which is the first of octet p
-abbrev pub unlikeAt : List ℕ → ℕ → List ℕ → ℕ → Bool
-unlikeAt s p marks i = not (eqb (bitsIn 8 s (p * 8 + i)) (markOf marks i))
-
-bit-is : (s : List ℕ) (p i : ℕ) → getD s (p + i / 8 + (1 - 1)) 0 / 2 ^ (7 - i % 8) % 2 ≡ bitsIn 8 s (p * 8 + i)
+bit-is : (map : List ℕ) (p i : ℕ) → getD map (p + i / 8 + (1 - 1)) 0 / 2 ^ (7 - i % 8) % 2 ≡ bitsIn 8 map (p * 8 + i)
 unfolding bitsIn bitOf
-bit-is s p i =
+bit-is map p i =
     let e : p + i / 8 + (1 - 1) ≡ (p * 8 + i) / 8 = omega arith in
     let f : 7 - i % 8 ≡ 8 - 1 - (p * 8 + i) % 8 = omega arith in
-    ap₂ (λ (x y : ℕ). getD s x 0 / 2 ^ y % 2) e f
+    ap₂ (λ (x y : ℕ). getD map x 0 / 2 ^ y % 2) e f
 
-pub unlike-next : (s : List ℕ) (p : ℕ) (marks : List ℕ) (i : ℕ) (a : Bool) (o : ℕ) → a ≡ anyBelow (unlikeAt s p marks) i → o ≡ getD s (p + i / 8 + (1 - 1)) 0
-    → a || not (eqb (o / 2 ^ (7 - i % 8) % 2) (markOf marks i)) ≡ anyBelow (unlikeAt s p marks) (i + 1)
-unlike-next s p marks i a o h e =
-    any-next (unlikeAt s p marks) i a _ h (ap (λ (x : ℕ). not (eqb x (markOf marks i))) (ap (λ (x : ℕ). x / 2 ^ (7 - i % 8) % 2) e ∙ bit-is s p i))
+module _ (map : List ℕ) (p : ℕ) (given : Bool) (i : ℕ) where
+  pub mark-bit : given ≡ true → (o : ℕ) → o ≡ getD map (p + i / 8 + (1 - 1)) 0 → o / 2 ^ (7 - i % 8) % 2 ≡ markIn map p given i
+  mark-bit h o e = rw h (ap (λ (x : ℕ). x / 2 ^ (7 - i % 8) % 2) e ∙ bit-is map p i)
 
--- the message's mark of point i, of n points
-module _ (s store : List ℕ) (bms : Part) (marks : List ℕ) where
-  abbrev differ : Bitmap → Bool
-  differ b = anyBelow (λ i. not (eqb (presentBy b (bitmapOctets s store (inForce b bms (length marks))) i) (markOf marks i))) (length marks)
+  pub mark-one : given ≡ false → 1 ≡ markIn map p given i
+  mark-one h = rw h
 
-  pub without : (r : Bool) → r ≡ anyBelow (λ i. not (eqb 1 (markOf marks i))) (length marks) → r ≡ differ Without
-  unfolding presentBy
-  without r e = e
+-- what is seen of the points, by the kind of the bitmap; r is read back as rv
+module _ (s store : List ℕ) (bms : Part) (numbers : List ℤ) (marks : List ℕ) (from n : ℕ) (r rv : ℤ) (er : rv ≡ r) (e : ℕ) (o l u x : Bool) where
+  abbrev walked : (ℕ → ℕ) → Type 0
+  walked present = Seen numbers marks present (out s numbers marks from n rv e) (length numbers) o l u x
 
-  pub carried : (r : Bool) → r ≡ anyBelow (unlikeAt s (bms .start + 6) marks) (length marks) → r ≡ differ Carried
-  unfolding presentBy bitmapOctets inForce
-  carried r e = e ∙ any-ext _ _ (length marks) (λ i l. ap (λ (x : ℕ). not (eqb x (markOf marks i))) (bit-part s (bms .start + 6) (length marks) i l ∙ ap (bitsIn 8 _) (zero-add i)))
+  abbrev surveyed : Bitmap → Type 0
+  surveyed b = Seen numbers marks (presentBy b (bitmapOctets s store (inForce b bms (length numbers)))) (out s numbers marks from n r e) (length numbers) o l u x
 
-  pub stored : (k : ℕ) (r : Bool) → r ≡ anyBelow (unlikeAt store 0 marks) (length marks) → r ≡ differ (Stored k)
-  unfolding presentBy bitmapOctets inForce
-  stored k r e = e ∙ any-ext _ _ (length marks) (λ i l. ap (λ (x : ℕ). not (eqb x (markOf marks i))) (bit-part store 0 (length marks) i l ∙ ap (bitsIn 8 _) (zero-add i)))
+  alike : (f g : ℕ → ℕ) → ((i : ℕ) → i < length numbers → f i ≡ g i) → walked f → Seen numbers marks g (out s numbers marks from n r e) (length numbers) o l u x
+  alike f g h q = record {
+    odds = q .odds;
+    larges = q .larges;
+    unlikes = q .unlikes ∙ any-ext _ _ (length numbers) (λ i k. ap (λ (y : ℕ). not (eqb y (markOf marks i))) (h i k));
+    outs = q .outs ∙ ap (λ (y : ℤ). anyBelow (out s numbers marks from n y e) (length numbers)) er;
+  }
+
+  module _ (b : Bitmap) where
+    pub without : b ≡ Without → walked (markIn s 0 false) → surveyed b
+    unfolding presentBy
+    without h q = rw h (alike _ _ (λ i k. refl) q)
+
+    pub carried : b ≡ Carried → walked (markIn s (bms .start + 6) true) → surveyed b
+    unfolding presentBy bitmapOctets inForce
+    carried h q = rw h (alike _ _ (λ i k. bit-part s (bms .start + 6) (length numbers) i k ∙ ap (bitsIn 8 _) (zero-add i)) q)
+
+    pub stored : (k : ℕ) → b ≡ Stored k → walked (markIn store 0 true) → surveyed b
+    unfolding presentBy bitmapOctets inForce
+    stored k h q = rw h (alike _ _ (λ i k. bit-part store 0 (length numbers) i k ∙ ap (bitsIn 8 _) (zero-add i)) q)

@@ -12,7 +12,7 @@ use Rattle.bits.specs.Tables.{tab}
 use Rattle.bits.proofs.Runs.{bitsIn-bits}
 use Rattle.bits.proofs.Ones.{count-le}
 use Rattle.bits.proofs.Trip.{length-runs}
-use Rattle.octets.specs.Pack.{unpackFits, unpacked}
+use Rattle.runs.specs.Take.{unpackFits, unpacked}
 use Rattle.rules.specs.Points.{valueAt, scattered}
 use Rattle.field.proofs.Spreading.{spread-front}
 

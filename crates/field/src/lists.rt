@@ -11,9 +11,9 @@ ghost use Rattle.rules.specs.Places.{after};
 ghost use Rattle.rules.specs.Points.{scattered};
 use crate::spread::marks_of;
 use crate::spread::spread;
-use octets::unpack;
 use rules::Bitmap;
 use rules::Part;
+use runs::unpack;
 
 // A mark of 1 for each of the first n points.
 fn all_marked(marks: &mut [u8], n: usize)

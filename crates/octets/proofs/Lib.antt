@@ -1,8 +1,2 @@
 pub mod Numbers
 pub mod Signs
-pub mod Over
-pub mod Fits
-pub mod Puts
-pub mod Bits
-pub mod Lists
-pub mod Contracts

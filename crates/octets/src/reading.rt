@@ -10,7 +10,7 @@ ghost use lib.IntN.{pos, negℤ};
 use rules::Signed;
 
 // The octet at place p + j, counted from 0.
-pub(crate) fn at(s: &[u8], p: usize, j: usize) -> u8
+pub fn at(s: &[u8], p: usize, j: usize) -> u8
     ensures { λ r. ⌜ r ≡ getD (now (s .entry)) (p + j) 0 ⌝ }
 {
     if p < s.len() {
@@ -22,7 +22,7 @@ pub(crate) fn at(s: &[u8], p: usize, j: usize) -> u8
 }
 
 // How far octet k, counted from 1, lies from a section's start.
-pub(crate) fn offset(k: u8) -> usize
+pub fn offset(k: u8) -> usize
     ensures { λ r. ⌜ r ≡ k - 1 ⌝ }
 {
     if k == 0 { 0 } else { k as usize - 1 }

@@ -1,26 +1,28 @@
 -- Where the sections and the bitmap in force lie, from what a header says and what the rows leave of a taken message.
-use mathlib.Core.Path.{_≡_, sym, ap, _∙_, subst}
-use mathlib.Core.Bool.{true, false}
+use mathlib.Core.Path.{_≡_, refl, sym, ap, _∙_, subst}
+use mathlib.Core.Bool.{Bool, true, false, cond}
 use mathlib.Core.List.{List, [], _∷_}
 use Prim.Native.Nat.{ℕ, zero, suc, _+_, _-_, _*_, _≤_, _<_}
 use native.Mathlib.Omega.{arith}
 use lib.Dec.{T, eqb}
 use lib.ListN.{length, getD, List·getD-eq-default}
-use borrow.Author.Tests.{eq-eqb, ne-eqb, ltb-false}
-use Rattle.rules.specs.declared.{Part.Part, Places.Places, Bitmap.the-variants.Without, Bitmap.the-variants.Carried, Bitmap.the-variants.Stored, Header.Header}
+use borrow.Author.Tests.{eq-eqb, ne-eqb}
+use Rattle.rules.specs.declared.{Part.Part, Places.Places, Bitmap.Bitmap, Bitmap.the-variants.Without, Bitmap.the-variants.Carried, Bitmap.the-variants.Stored, Header.Header}
 use Rattle.bits.specs.Bits.{octetsFor}
-use Rattle.rules.specs.Numbers.{octet}
-use Rattle.rules.specs.Table.{refusal, accepted}
+use Rattle.rules.specs.Table.{accepted}
 use denote.Ref.{RefT}
 use Rattle.rules.specs.Places.{IsPart, noPart, after, sizeBad, placesOf, sectionAt, sectionsOf}
-use Rattle.rules.specs.Bitmap.{Lent, bitmapFaults, lentFaults, inForce, noBitmap, IsInForce}
-use Rattle.rules.specs.Reading.{ownRefusal, headerOf, sectionOf, bitmapIn, pointsIn, inForceIn, bitmapOf}
+use Rattle.rules.specs.Bitmap.{Lent, inForce, noBitmap, IsInForce}
+use Rattle.rules.specs.Reading.{ownRefusal, headerOf, sectionOf, inForceIn, bitmapOf}
 use Rattle.rules.specs.Bounds.{messageLeast, messageMost}
 use Rattle.theorems.specs.Reads.{Taken, Inside}
-use Rattle.theorems.proofs.Rows.{NoneOf, none-of, is-eq, inside}
+use Rattle.theorems.proofs.Rows.{inside}
 use Rattle.theorems.proofs.Judged.{judged}
 use Rattle.theorems.proofs.Tiles.{reads-inside}
+use Rattle.theorems.proofs.Bounded.{bitmap-inside}
 use Rattle.message.proofs.Said as S
+use Rattle.parts.specs.declared.{Force.Force}
+use Rattle.parts.specs.Force.{forceOf}
 use Rattle.parts.specs.Sections.{sectionsBy}
 
 bms-end : (s : List ℕ) → after (placesOf s .bds) + 4 ≡ length s → 12 ≤ placesOf s .bds .len → placesOf s .bms .start + placesOf s .bms .len + 16 ≤ length s
@@ -32,9 +34,9 @@ module _ (s : List ℕ) (lent : Lent) (h : Header) (e : h ≡ headerOf s lent) w
   unfolding sectionOf
   no z k = rw (S.refused s lent h e z)
 
-  pub in-refused : (h .refusal .number ≡ 0 → ⊥) → (r m st : RefT (List ℕ)) → IsPart r m noPart → IsInForce r m st (bitmapOf s lent)
+  pub no-force : (h .refusal .number ≡ 0 → ⊥) → _≡_ {A = Force} (record { stored = false; part = noPart }) (forceOf (bitmapOf s lent))
   unfolding bitmapOf noBitmap
-  in-refused z r m st i = rw (S.refused s lent h e z) i
+  no-force z = rw (S.refused s lent h e z)
 
   module _ (z : h .refusal .number ≡ 0) where
     yes-own : accepted (ownRefusal s lent) ≡ true
@@ -43,61 +45,37 @@ module _ (s : List ℕ) (lent : Lent) (h : Header) (e : h ≡ headerOf s lent) w
     places-of : h .places ≡ placesOf s
     places-of = S.places-of s lent h e z
 
-    bitmap-of : h .bitmap ≡ bitmapIn s
-    bitmap-of = S.bitmap-of s lent h e z
-
-    points-of : h .points ≡ pointsIn s
-    points-of = S.points-of s lent h e z
-
     took : Taken s lent
     took = subst T (sym yes-own) tt
 
     within : Inside s
     within = reads-inside s lent took
 
-    ends : after (h .places .bds) + 4 ≡ length s
-    ends = ap {B = ℕ} (λ (x : Places). after (x .bds) + 4) places-of ∙ within .end
+    few : length s ≤ messageMost
+    unfolding sizeBad
+    few = inside messageLeast messageMost (length s) (judged s lent took .size) .1
 
     pub room : after (h .places .bds) < 4294967296
-    unfolding sizeBad
-    room = omega (arith, ends, inside messageLeast messageMost (length s) (judged s lent took .size) .1)
+    room = omega (arith, ap {B = ℕ} (λ (x : Places). after (x .bds) + 4) places-of ∙ within .end, few)
 
-    none : NoneOf (bitmapFaults s lent (h .places .bms) (h .bitmap) (h .points))
-    none = rw (places-of, bitmap-of, points-of) (none-of _ (judged s lent took .bitmap))
+    pub start-room : h .places .bms .start + 6 < 4294967296
+    start-room = let b : h .places .bms .start + h .places .bms .len + 16 ≤ length s = rw places-of (bms-end s (within .end) (within .bds)) in omega (arith, b, few)
 
-    force-of : inForce (h .bitmap) (h .places .bms) (h .points) ≡ bitmapOf s lent
+    force-by : (b : Bitmap) → h .bitmap ≡ b → inForce b (h .places .bms) (h .points) ≡ bitmapOf s lent
     unfolding bitmapOf inForceIn
-    force-of = rw (yes-own, places-of, bitmap-of, points-of)
+    force-by b q = rw (yes-own, sym q, places-of, S.bitmap-of s lent h e z, S.points-of s lent h e z)
 
-    module _ (r m st : RefT (List ℕ)) where
-      pub in-none : h .bitmap ≡ Without → IsPart r m noPart → IsInForce r m st (bitmapOf s lent)
-      unfolding inForce noBitmap
-      in-none q i = subst (IsInForce r m st) (force-of) (rw q i)
+    pub by-none : h .bitmap ≡ Without → _≡_ {A = Force} (record { stored = false; part = noPart }) (forceOf (bitmapOf s lent))
+    unfolding inForce noBitmap
+    by-none q = ap forceOf (force-by Without q)
 
-      pub in-message : h .bitmap ≡ Carried → IsPart r m (record { start = h .places .bms .start + 6; len = octetsFor (h .points) }) → IsInForce r m st (bitmapOf s lent)
-      unfolding inForce
-      in-message q i = subst (IsInForce r m st) (force-of) (rw q i)
+    pub by-carried : h .bitmap ≡ Carried → _≡_ {A = Force} (record { stored = false; part = record { start = h .places .bms .start + 6; len = octetsFor (h .points) } }) (forceOf (bitmapOf s lent))
+    unfolding inForce
+    by-carried q = ap forceOf (force-by Carried q)
 
-      pub in-store : (k : ℕ) → h .bitmap ≡ Stored k → IsPart r st (record { start = 0; len = octetsFor (h .points) }) → IsInForce r m st (bitmapOf s lent)
-      unfolding inForce
-      in-store k q i = subst (IsInForce r m st) (force-of) (rw q i)
-
-    bms-ends : h .places .bms .start + h .places .bms .len + 16 ≤ length s
-    bms-ends = rw places-of (bms-end s (within .end) (within .bds))
-
-    pub message-fits : h .bitmap ≡ Carried → h .places .bms .start + 6 + octetsFor (h .points) ≤ length s
-    unfolding bitmapFaults
-    message-fits q =
-        let f : NoneOf (bitmapFaults s lent (h .places .bms) Carried (h .points)) = rw q at none in
-        let g : 8 * (h .places .bms .len - 6) ≡ h .points + octet s (h .places .bms .start) 4 = is-eq (8 * (h .places .bms .len - 6)) (h .points + octet s (h .places .bms .start) 4) (f .1 .0) in
-        omega (arith, bms-ends)
-
-    pub store-fits : (k : ℕ) → h .bitmap ≡ Stored k → 0 + octetsFor (h .points) ≤ length (lent .octets)
-    unfolding bitmapFaults lentFaults
-    store-fits k q =
-        let f : NoneOf (bitmapFaults s lent (h .places .bms) (Stored k) (h .points)) = rw q at none in
-        let g : octetsFor (h .points) ≤ length (lent .octets) = ltb-false (length (lent .octets)) (octetsFor (h .points)) (f .1 .1 .1 .1 .0) in
-        omega arith
+    pub by-stored : (k : ℕ) → h .bitmap ≡ Stored k → _≡_ {A = Force} (record { stored = true; part = record { start = 0; len = octetsFor (h .points) } }) (forceOf (bitmapOf s lent))
+    unfolding inForce
+    by-stored k q = ap forceOf (force-by (Stored k) q)
 
     module _ (k : ℕ) (p : Part) (ep : p ≡ getD (sectionsBy (h .places)) k noPart) where
       is : getD (sectionsOf s) k noPart ≡ p
@@ -114,19 +92,54 @@ module _ (s : List ℕ) (lent : Lent) (h : Header) (e : h ≡ headerOf s lent) w
       unfolding sectionOf
       given q = let n : eqb (p .len) 0 ≡ false = ne-eqb _ _ q in rw (yes-own, is, n)
 
-      fits-by : (k : ℕ) → getD (sectionsBy (placesOf s)) k noPart .start + getD (sectionsBy (placesOf s)) k noPart .len ≤ length s
-      unfolding sectionsBy placesOf sectionAt
-      fits-by zero = omega (arith, within .end)
-      fits-by (suc zero) = omega (arith, within .end)
-      fits-by (suc (suc zero)) = omega (arith, within .end)
-      fits-by (suc (suc (suc zero))) = omega (arith, within .end)
-      fits-by (suc (suc (suc (suc zero)))) = omega (arith, within .end)
-      fits-by (suc (suc (suc (suc (suc zero))))) = omega (arith, within .end)
-      fits-by (suc (suc (suc (suc (suc (suc k)))))) = omega arith
+-- a section lies inside its message
+listed-fits : (s : List ℕ) → Inside s → (k : ℕ) → after (getD (sectionsOf s) k noPart) ≤ length s
+unfolding sectionsOf placesOf sectionAt
+listed-fits s w zero = omega (arith, w .end)
+listed-fits s w (suc zero) = omega (arith, w .end)
+listed-fits s w (suc (suc zero)) = omega (arith, w .end)
+listed-fits s w (suc (suc (suc zero))) = omega (arith, w .end)
+listed-fits s w (suc (suc (suc (suc zero)))) = omega (arith, w .end)
+listed-fits s w (suc (suc (suc (suc (suc zero))))) = omega (arith, w .end)
+listed-fits s w (suc (suc (suc (suc (suc (suc k)))))) = omega arith
 
-      pub fits : p .start + p .len ≤ length s
-      fits = let e2 : p ≡ getD (sectionsBy (placesOf s)) k noPart = ep ∙ ap {B = Part} (λ (x : Places). getD (sectionsBy x) k noPart) places-of in
-          subst (λ (x : Part). x .start + x .len ≤ length s) (sym e2) (fits-by k)
+answered-fits : (n : ℕ) (p : Part) (taken none : Bool) → (T taken → after p ≤ n) → after (cond taken (cond none noPart p) noPart) ≤ n
+answered-fits n p true true f = omega arith
+answered-fits n p true false f = f tt
+answered-fits n p false none f = omega arith
+
+pub section-fits : (s : List ℕ) (lent : Lent) (k : ℕ) (p : Part) → p ≡ sectionOf s lent k → after p ≤ length s
+unfolding sectionOf
+section-fits s lent k p e =
+    subst (λ (x : Part). after x ≤ length s) (sym e)
+    (answered-fits (length s) (getD (sectionsOf s) k noPart) (accepted (ownRefusal s lent)) (eqb (getD (sectionsOf s) k noPart .len) 0) (λ t. listed-fits s (reads-inside s lent t) k))
+
+-- and the bitmap in force inside the slice that it is part of
+force-fits : (s : List ℕ) (lent : Lent) (taken : Bool) → (T taken → Taken s lent) → after (cond taken (inForceIn s) noBitmap .part) ≤ length (cond (cond taken (inForceIn s) noBitmap .stored) (lent .octets) s)
+unfolding noBitmap
+force-fits s lent true f = bitmap-inside s lent (f tt)
+force-fits s lent false f = omega arith
+
+module _ (s : List ℕ) (lent : Lent) (f : Force) (e : f ≡ forceOf (bitmapOf s lent)) where
+  fits : after (f .part) ≤ length (cond (f .stored) (lent .octets) s)
+  unfolding bitmapOf
+  fits = subst (λ (x : Force). after (x .part) ≤ length (cond (x .stored) (lent .octets) s)) (sym e) (force-fits s lent (accepted (ownRefusal s lent)) (λ t. t))
+
+  pub store-fits : f .stored ≡ true → after (f .part) ≤ length (lent .octets)
+  store-fits q = subst (λ (b : Bool). after (f .part) ≤ length (cond b (lent .octets) s)) q fits
+
+  pub message-fits : f .stored ≡ false → after (f .part) ≤ length s
+  message-fits q = subst (λ (b : Bool). after (f .part) ≤ length (cond b (lent .octets) s)) q fits
+
+  module _ (r m st : RefT (List ℕ)) where
+    lies : cond (f .stored) (IsPart r st (f .part)) (IsPart r m (f .part)) → IsInForce r m st (bitmapOf s lent)
+    lies i = subst (λ (x : Force). cond (x .stored) (IsPart r st (x .part)) (IsPart r m (x .part))) e i
+
+    pub of-store : f .stored ≡ true → IsPart r st (f .part) → IsInForce r m st (bitmapOf s lent)
+    of-store q i = lies (rw q i)
+
+    pub of-message : f .stored ≡ false → IsPart r m (f .part) → IsInForce r m st (bitmapOf s lent)
+    of-message q i = lies (rw q i)
 
 pub past : (p : Places) (k : ℕ) → 6 ≤ k → noPart ≡ getD (sectionsBy p) k noPart
 unfolding sectionsBy

@@ -8,9 +8,9 @@ ghost use Rattle.rules.specs.Reading.{numberingOf};
 ghost use Rattle.points.specs.Told.{told, bitsFrom, always};
 use message::header;
 use octets::octet;
-use octets::ones;
 use rules::Bitmap;
 use rules::GridPoint;
+use runs::ones;
 
 // A present point's number among the present ones.
 pub struct DataPoint(u32);

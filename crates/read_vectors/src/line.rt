@@ -17,17 +17,17 @@ use rules::Moment;
 use rules::Part;
 use rules::Signed;
 
-fn word(text: &[u8]) {
+pub(crate) fn word(text: &[u8]) {
     io::write_all(STDOUT_FILENO, b" ");
     io::write_all(STDOUT_FILENO, text);
 }
 
-fn number(n: u64) {
+pub(crate) fn number(n: u64) {
     io::write_all(STDOUT_FILENO, b" ");
     io::print_decimal(STDOUT_FILENO, n);
 }
 
-fn whole(n: u32) {
+pub(crate) fn whole(n: u32) {
     number(n as u64);
 }
 
@@ -43,7 +43,7 @@ fn hex(n: u32) {
 // A number with its sign, by way of the three octets that the format has for it: from 8,388,608 on they say minus.
 fn signed(z: Signed) {
     let mut field = [0u8; 3];
-    octets::put_signed_three(&mut field, 0, 1, z);
+    puts::put_signed_three(&mut field, 0, 1, z);
     let n = octets::three(&field, 0, 1);
     if n < 8388608 {
         whole(n);

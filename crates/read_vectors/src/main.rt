@@ -1,15 +1,18 @@
-// The reader on each vector file that an argument names, and a line for each: the name, the reply, what the message says, and what became of
-// the lent lists.
+// The reader on each vector file that an argument names, and a line for each: the name, the reply, what the message says, what became of the
+// lent lists, and whether writing what was read gives the message back.
 //
 // A vector file has octets 1-2 the lent bitmap's number, 3-5 how many octets it has, 6-8 how many octets the message has, 9-11 how many of
 // them stand first in the file, 12-14 the place from which on the others stand there, 15-17 the room for values, 18-20 the room for marks;
 // then the lent bitmap, the message's first octets and its last ones. Those in between are zero, so a long message can be a small file.
+mod again; // again.rt: what was read, written again
 mod line; // line.rt: what is printed
 mod lists; // lists.rt: what the lent lists hold before and after
 
+use crate::again::write_again;
 use crate::line::answer;
 use crate::lists::fill_marks;
 use crate::lists::fill_values;
+use rules::Header;
 use rules::bounds::MESSAGE_MOST;
 use rules::bounds::POINTS_MOST;
 
@@ -32,12 +35,20 @@ fn load(fd: i32, room: &mut [u8], from: usize, to: usize) {
     }
 }
 
+// What the reader answered; of an accepted message what was read is written again.
+fn tell(s: &[u8], number: u16, store: &[u8], h: Header, values: &[u32], marks: &[u8]) {
+    answer(h, values, marks);
+    if h.refusal.number == 0 {
+        write_again(s, number, store, h, values, marks);
+    }
+}
+
 // Lists filled, the message read into them, and the line.
 fn judge(s: &[u8], number: u16, store: &[u8], values: &mut [u32], marks: &mut [u8]) {
     fill_values(values);
     fill_marks(marks);
     let h = field::read(s, number, store, values, marks);
-    answer(h, values, marks);
+    tell(s, number, store, h, values, marks);
 }
 
 // The same on so many octets and elements of each as the vector says.

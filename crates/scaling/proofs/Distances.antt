@@ -1,16 +1,17 @@
--- |V − R| of two numbers of 32 bits, computed in 64: no difference is lost, nor its size.
-use mathlib.Core.Path.{_≡_, ap, ap₂, _∙_, subst}
-use mathlib.Core.Bool.{true, false}
-use Prim.Native.Nat.{suc, _^_, _≤_}
+-- |V − R| of two numbers of 32 bits, computed in 64: no difference is lost, nor its size. Of two numbers above R the greater is the farther.
+use mathlib.Core.Path.{_≡_, refl, sym, ap, ap₂, _∙_, subst}
+use mathlib.Core.Bool.{Bool, true, false, cond}
+use Prim.Native.Nat.{ℕ, zero, suc, _+_, _-_, _^_, _≤_, _<_}
 use native.Mathlib.Omega.{arith}
-use lib.Dec.{T}
-use lib.IntN.{ℤ, pos, negsuc, natAbs, _-ℤ_, +ℤ-idl}
+use lib.Dec.{T, ltb}
+use lib.IntN.{ℤ, pos, negsuc, natAbs, subℕ, _-ℤ_, +ℤ-idl}
 use lib.Signed.{ltZ, mag, nonNeg}
-use borrow.Author.Tests.{ltb-true}
+use borrow.Author.Tests.{ltb-true, ltb-false, le-ltb}
 use mir.Syntax.{w32, w64}
 use mir.Val.{Fits, SFits, toZ, ofZ}
 use mir.Facts.{toZ-ofZ, sfits-widen}
-use Rattle.theorems.proofs.Whole.{sub-le}
+use Rattle.theorems.proofs.Whole.{sub-le, ltZ-antisym}
+use Rattle.scaling.specs.Spread.{floor, spreadOf}
 
 mag-size : (z : ℤ) → (mag z ≤ natAbs z) × (natAbs z ≤ suc (mag z))
 mag-size (pos n) = (omega arith, omega arith)
@@ -70,3 +71,33 @@ module _ (v r : ℤ) (f : SFits w32 v) (g : SFits w32 r) where
 
     pub turned-is : natAbs (toZ w64 (ofZ w64 (pos 0 -ℤ d))) ≡ natAbs (v -ℤ r)
     turned-is = ap natAbs there ∙ kept-is
+
+-- the distance of two naturals
+between : (a b : ℕ) → natAbs (subℕ a b) ≡ a - b + (b - a)
+between a b = go (ltb a b) refl
+  where
+    go : (t : Bool) → ltb a b ≡ t → natAbs (cond t (negsuc (b - suc a)) (pos (a - b))) ≡ a - b + (b - a)
+    go true e = omega (arith, ltb-true a b e)
+    go false e = omega (arith, ltb-false a b e)
+
+-- of two numbers not below R, the greater is the farther
+pub farther : (r v h : ℤ) → ltZ v r ≡ false → ltZ h v ≡ false → natAbs (v -ℤ r) ≤ natAbs (h -ℤ r)
+farther (pos zero) (pos v) (pos h) p q = omega (arith, ltb-false h v q)
+farther (pos (suc r)) (pos v) (pos h) p q = omega (arith, between v (suc r), between h (suc r), ltb-false v (suc r) p, ltb-false h v q)
+farther (negsuc r) (pos v) (pos h) p q = omega (arith, ltb-false h v q)
+farther (negsuc r) (negsuc v) (pos h) p q = omega (arith, between (suc r) (suc v), ltb-false r v p)
+farther (negsuc r) (negsuc v) (negsuc h) p q = omega (arith, between (suc r) (suc v), between (suc r) (suc h), ltb-false r v p, ltb-false v h q)
+farther (pos r) (negsuc v) h p q = absurd (subst T p tt)
+farther r (pos v) (negsuc h) p q = absurd (subst T q tt)
+
+-- no number of 32 bits is below the floor, and a number that it is not below is the floor
+pub over-floor : (z : ℤ) → mag z < 2147483648 → ltZ z floor ≡ false
+over-floor (pos n) h = refl
+over-floor (negsuc n) h = le-ltb 2147483647 n (omega arith)
+
+pub floor-spread : (r : ℤ) → mag r < 2147483648 → spreadOf r floor ≡ 0
+floor-spread r h = go (ltZ floor r) refl
+  where
+    go : (t : Bool) → ltZ floor r ≡ t → cond t 0 (natAbs (floor -ℤ r)) ≡ 0
+    go true e = refl
+    go false e = ap (λ (x : ℤ). natAbs (floor -ℤ x)) (sym (ltZ-antisym floor r e (over-floor r h)))

@@ -1,3 +1,4 @@
 pub mod Distances
 pub mod Stepping
+pub mod Walked
 pub mod Choosing

@@ -1,18 +1,17 @@
 -- X by shifts, and the order of X: it grows with r, so that the greatest r alone says whether all X fit.
 use mathlib.Core.Path.{_≡_, refl, sym, ap, _∙_, subst}
-use mathlib.Core.Bool.{Bool, true, false, not, _||_, _&&_, cond}
+use mathlib.Core.Bool.{Bool, true, false, _&&_}
 use mathlib.Core.Logic.{⊎-elim}
 use Prim.Native.Nat.{ℕ, zero, suc, _+_, _-_, _*_, _/_, _%_, _^_, _<_, _≤_}
 use native.Mathlib.Nat.{div-mul-le-self, le-div-iff-mul-le, div-div-eq-div-mul, add-div-right, div-eq-of-lt, lt-of-lt-of-le, pow-suc}
 use native.Mathlib.Omega.{arith}
-use lib.Dec.{ltb, leb, eqb}
+use lib.Dec.{T, leb, eqb}
 use lib.Pow.{pow-pos, pow-mono}
-use borrow.Author.Tests.{ltb-true, ltb-false, leb-true, leb-false, le-leb, lt-leb}
+use borrow.Author.Tests.{eq-eqb, ne-eqb, eqb-true, leb-false, lt-leb}
 use Rattle.bits.specs.Tables.{anyBelow, leastBelow}
-use Rattle.bits.proofs.Below.{Least, least}
+use Rattle.bits.proofs.Below.{Least, least, none-below, no-below}
 use Rattle.bits.proofs.Runs.{lt-or-ge, one-shl}
 use Rattle.rules.specs.Packing.{stepped}
-use Rattle.scaling.specs.Spread.{greatest}
 
 -- q / 2 + q % 2 is q + 1 halved
 halved : (q : ℕ) → q / 2 + q % 2 ≡ (q + 1) / 2
@@ -61,43 +60,31 @@ unfolding stepped
 stepped-none zero = refl
 stepped-none (suc e) = let d : 2 ^ suc e ≡ 2 ^ e * 2 = pow-suc 2 e in div-eq-of-lt (omega (arith, pow-pos e))
 
--- of two numbers, the greater says for both
-or-left : (b p q : ℕ) → p ≤ q → leb b q ≡ (leb b p || leb b q)
-or-left b p q h = go (leb b p) refl
-  where
-    go : (t : Bool) → leb b p ≡ t → leb b q ≡ (t || leb b q)
-    go true e = le-leb b q (omega (arith, leb-true b p e))
-    go false e = refl
-
-or-right : (b p q : ℕ) → p ≤ q → leb b q ≡ (leb b q || leb b p)
-or-right b p q h = go (leb b q) refl
-  where
-    go : (t : Bool) → leb b q ≡ t → t ≡ (t || leb b p)
-    go true e = refl
-    go false e = sym (lt-leb b p (omega (arith, leb-false b q e)))
-
-or-nothing : (a : Bool) → a ≡ (a || false)
-or-nothing true = refl
-or-nothing false = refl
-
-module _ (b e : ℕ) where
+-- whether a present one of the first n points fills the bits, of r given by g
+module _ (b e : ℕ) (present g : ℕ → ℕ) (n : ℕ) where
   abbrev wide : ℕ → Bool
-  wide r = leb b (stepped e r)
+  wide i = eqb (present i) 1 && leb b (stepped e (g i))
 
-  one-more : (a x : ℕ) (t : Bool) → wide (cond (t && ltb a x) x a) ≡ (wide a || (t && wide x))
-  one-more a x false = or-nothing (wide a)
-  one-more a x true = go (ltb a x) refl
+  -- none is present
+  pub wide-none : 0 < b → ((i : ℕ) → i < n → present i ≡ 1 → ⊥) → leb b (stepped e 0) ≡ anyBelow wide n
+  wide-none h none = ap (leb b) (stepped-none e) ∙ lt-leb b 0 h ∙ sym (no-below wide n (λ i l. ap (λ (t : Bool). t && leb b (stepped e (g i))) (ne-eqb (present i) 1 (none i l))))
+
+  -- the greatest says it for all
+  pub wide-one : (k : ℕ) → k < n → present k ≡ 1 → ((i : ℕ) → i < n → present i ≡ 1 → g i ≤ g k) → leb b (stepped e (g k)) ≡ anyBelow wide n
+  wide-one k l here most = go (leb b (stepped e (g k))) refl (anyBelow wide n) refl
     where
-      go : (l : Bool) → ltb a x ≡ l → wide (cond l x a) ≡ (wide a || wide x)
-      go true q = or-left b (stepped e a) (stepped e x) (stepped-mono e a x (omega (arith, ltb-true a x q)))
-      go false q = or-right b (stepped e x) (stepped e a) (stepped-mono e x a (ltb-false a x q))
+      at : wide k ≡ leb b (stepped e (g k))
+      at = ap (λ (t : Bool). t && leb b (stepped e (g k))) (eq-eqb (present k) 1 here)
 
-  pub wide-any : (present g : ℕ → ℕ) (n : ℕ) → 0 < b → wide (greatest present g n) ≡ anyBelow (λ i. eqb (present i) 1 && wide (g i)) n
-  unfolding greatest anyBelow
-  wide-any present g zero h = ap (leb b) (stepped-none e) ∙ lt-leb b 0 h
-  wide-any present g (suc n) h =
-      one-more (greatest present g n) (g n) (eqb (present n) 1)
-      ∙ ap (λ (x : Bool). x || (eqb (present n) 1 && wide (g n))) (wide-any present g n h)
+      other : leb b (stepped e (g k)) ≡ false → (i : ℕ) → i < n → (t : Bool) → eqb (present i) 1 ≡ t → (t && leb b (stepped e (g i))) ≡ false
+      other f i m false p = refl
+      other f i m true p = lt-leb b (stepped e (g i)) (omega (arith, leb-false b (stepped e (g k)) f, stepped-mono e (g i) (g k) (most i m (eqb-true (present i) 1 p))))
+
+      go : (t : Bool) → leb b (stepped e (g k)) ≡ t → (u : Bool) → anyBelow wide n ≡ u → t ≡ u
+      go true p true q = refl
+      go true p false q = absurd (subst T (sym at ∙ none-below wide n q k l) (subst T (sym p) tt))
+      go false p true q = sym (no-below wide n (λ i m. other p i m (eqb (present i) 1) refl)) ∙ q
+      go false p false q = refl
 
 -- the least is one
 pub the-least : (f : ℕ → Bool) (n e : ℕ) → Least f n e → e ≡ leastBelow f n

@@ -1,28 +1,50 @@
--- The spread of the present numbers, which alone decides E.
-use Prim.Native.Nat.{ℕ, zero, suc, _^_}
-use mathlib.Core.Bool.{_&&_, not, cond}
+-- What one walk over the points finds for R and E: whether one is marked, the least present number, and the greatest.
+use Prim.Native.Nat.{ℕ, suc, _^_, _<_}
+use mathlib.Core.Bool.{Bool, false, not, cond}
+use mathlib.Core.Path.{_≡_}
+use mathlib.Core.Logic.{_⊎_}
 use mathlib.Core.List.{List}
-use lib.Dec.{ltb, leb, eqb}
-use lib.IntN.{ℤ, pos, natAbs, _-ℤ_}
-use lib.ListN.{length, getD}
+use lib.Dec.{leb, eqb}
+use lib.IntN.{ℤ, pos, negsuc, natAbs, _-ℤ_}
+use lib.ListN.{getD}
+use lib.Signed.{ltZ}
+use Rattle.bits.specs.Bits.{count}
 use Rattle.bits.specs.Tables.{leastBelow}
 use Rattle.rules.specs.Bounds.{stepMost}
 use Rattle.rules.specs.Bitmap.{markOf}
-use Rattle.rules.specs.Packing.{stepped}
+use Rattle.rules.specs.Packing.{lowest, stepped}
 
--- the greatest of g at the present ones of the first n points, and 0 where none is
-unfoldable pub greatest : (ℕ → ℕ) → (ℕ → ℕ) → ℕ → ℕ
-greatest present g zero = 0
-greatest present g (suc n) =
-    let before = greatest present g n in
-    cond (eqb (present n) 1 && ltb before (g n)) (g n) before
+-- of the first n points, whether one is marked
+abbrev pub someIn : List ℕ → ℕ → Bool
+someIn marks n = not (eqb (count (markOf marks) 0 n) 0)
 
--- how far a point's number is from R
-abbrev pub apartAt : List ℤ → ℤ → ℕ → ℕ
-apartAt numbers r i = natAbs (getD numbers i (pos 0) -ℤ r)
+-- their least present number
+abbrev pub lowestIn : List ℤ → List ℕ → ℕ → ℤ
+lowestIn numbers marks n = lowest (markOf marks) (λ i. getD numbers i (pos 0)) n
 
-abbrev pub spreadFrom : List ℤ → List ℕ → ℤ → ℕ
-spreadFrom numbers marks r = greatest (markOf marks) (apartAt numbers r) (length numbers)
+-- one of them is present and has this number
+pub record Has (numbers : List ℤ) (marks : List ℕ) (n : ℕ) (z : ℤ) : Type 0 where
+  pub at : ℕ
+  pub below : at < n
+  pub here : markOf marks at ≡ 1
+  pub is : getD numbers at (pos 0) ≡ z
+
+-- none of them is present
+abbrev pub None : List ℕ → ℕ → Type 0
+None marks n = (i : ℕ) → i < n → markOf marks i ≡ 1 → ⊥
+
+-- no number of 32 bits is below it
+abbrev pub floor : ℤ
+floor = negsuc 2147483647
+
+-- z is their greatest present number, and the floor where none is present
+pub record Highest (numbers : List ℤ) (marks : List ℕ) (n : ℕ) (z : ℤ) : Type 0 where
+  pub over : (i : ℕ) → i < n → markOf marks i ≡ 1 → ltZ z (getD numbers i (pos 0)) ≡ false
+  pub from : (None marks n × (z ≡ floor)) ⊎ Has numbers marks n z
+
+-- how far the greatest is above R, and 0 where it is below, as the floor is
+abbrev pub spreadOf : ℤ → ℤ → ℕ
+spreadOf r high = cond (ltZ high r) 0 (natAbs (high -ℤ r))
 
 -- the least of 0 to 24 for which a spread fits in N bits, and 25 where none is
 abbrev pub leastFor : ℕ → ℕ → ℕ

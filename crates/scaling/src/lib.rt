@@ -1,24 +1,34 @@
 // The packer's choice of R and E, and X at a point. All total. R is the least present number. E is found from the greatest r = V − R alone:
 // X grows with r, so that all X fit in N bits where the greatest does.
 ghost use mathlib.Core.Path.{_≡_};
-ghost use mathlib.Core.Bool.{_&&_, cond};
+ghost use mathlib.Core.Bool.{cond};
 ghost use Prim.Native.Nat.{_^_};
 ghost use lib.Dec.{ltb, leb};
 ghost use lib.IntN.{ℤ, natAbs, _-ℤ_};
 ghost use lib.Signed.{ltZ};
+ghost use lib.ListN.{length};
 ghost use Rattle.rules.specs.Packing.{reference as theReference, exponent as theExponent, stepped};
-ghost use Rattle.scaling.specs.Spread.{spreadFrom, leastFor};
-use octets::octet;
+ghost use Rattle.scaling.specs.Spread.{someIn, lowestIn, Highest, spreadOf, leastFor};
 use rules::bounds::SOURCE_MOST;
 use rules::bounds::STEP_MOST;
 
 // How many E there are to choose from, 0 to 24.
 const STEPS: u8 = STEP_MOST as u8 + 1;
 
+// No number is below it.
+const LEAST: i32 = -2147483648;
+
 // R and E as whole numbers; E is 25 where none of 0 to 24 serves.
 pub struct Choice {
     pub reference: i32,
     pub exponent: u8,
+}
+
+// Whether a point is marked, the least present number and the greatest; SOURCE_MOST and LEAST where none is present.
+struct Extremes {
+    marked: bool,
+    low: i32,
+    high: i32,
 }
 
 // |V − R|.
@@ -56,55 +66,80 @@ fn fills(bits: u8, x: u64) -> bool
     false
 }
 
-fn lower(here: bool, v: i32, low: i32) -> i32
-    ensures { λ r. ⌜ r ≡ cond (here && ltZ v low) v low ⌝ }
+fn pick(here: bool, v: i32, other: i32) -> i32
+    ensures { λ r. ⌜ r ≡ cond here v other ⌝ }
 {
-    if here & (v < low) {
+    if here {
         return v;
     }
-    low
+    other
 }
 
-fn higher(here: bool, v: u64, high: u64) -> u64
-    ensures { λ r. ⌜ r ≡ cond (here && ltb high v) v high ⌝ }
+fn lesser(a: i32, b: i32) -> i32
+    ensures { λ r. ⌜ r ≡ cond (ltZ a b) a b ⌝ }
 {
-    if here & (high < v) {
-        return v;
+    if a < b {
+        return a;
     }
-    high
+    b
+}
+
+fn greater(a: i32, b: i32) -> i32
+    ensures { λ r. ⌜ r ≡ cond (ltZ b a) a b ⌝ }
+{
+    if b < a {
+        return a;
+    }
+    b
+}
+
+fn shorter(a: usize, b: usize) -> usize
+    ensures { λ r. ⌜ r ≡ cond (ltb a b) a b ⌝ }
+{
+    if a < b {
+        return a;
+    }
+    b
+}
+
+// One walk for all that R and E need, without a branch: an absent point counts as the number that changes nothing. Marks past their end are 0.
+fn walk(numbers: &[i32], marks: &[u8]) -> Extremes
+    ensures { λ r. ⌜ (r .marked ≡ someIn (now (marks .entry)) (length (now (numbers .entry)))) × ((r .low ≡ lowestIn (now (numbers .entry)) (now (marks .entry)) (length (now (numbers .entry)))) × Highest (now (numbers .entry)) (now (marks .entry)) (length (now (numbers .entry))) (r .high)) ⌝ }
+{
+    let n = shorter(numbers.len(), marks.len());
+    let mut marked = false;
+    let mut low = SOURCE_MOST;
+    let mut high = LEAST;
+    let mut i = 0;
+    while i < n {
+        marked = marked | (marks[i] != 0);
+        low = lesser(pick(marks[i] == 1, numbers[i], SOURCE_MOST), low);
+        high = greater(pick(marks[i] == 1, numbers[i], LEAST), high);
+        i += 1;
+    }
+    Extremes {
+        marked: marked,
+        low: low,
+        high: high,
+    }
+}
+
+// The greatest V − R of the present points, from the greatest V; 0 where there is none.
+fn spread(r: i32, high: i32) -> u64
+    ensures { λ q. ⌜ q ≡ spreadOf r high ⌝ }
+{
+    if high < r {
+        return 0;
+    }
+    apart(high, r)
 }
 
 // "R is the least present V", and 0 where no point is present.
 pub fn reference(numbers: &[i32], marks: &[u8]) -> i32
     ensures { λ r. ⌜ ((d : ℤ) → r ≡ theReference (record { numbers = now (numbers .entry); marks = now (marks .entry); d = d })) ⌝ }
 {
-    let mut some = false;
-    let mut low = SOURCE_MOST;
-    let mut i = 0;
-    while i < numbers.len() {
-        let mark = octet(marks, i, 1);
-        some = some | (mark != 0);
-        low = lower(mark == 1, numbers[i], low);
-        i += 1;
-    }
-    if some {
-        return low;
-    }
-    0
-}
-
-// The greatest |V − R| of the present points.
-fn spread(numbers: &[i32], marks: &[u8], r: i32) -> u64
-    ensures { λ q. ⌜ q ≡ spreadFrom (now (numbers .entry)) (now (marks .entry)) r ⌝ }
-{
-    let mut high = 0;
-    let mut i = 0;
-    while i < numbers.len() {
-        let mark = octet(marks, i, 1);
-        high = higher(mark == 1, apart(numbers[i], r), high);
-        i += 1;
-    }
-    high
+    let x = walk(numbers, marks);
+    pick(x.marked, x.low, 0)
 }
 
 // The least E for which a spread fits in N bits.
@@ -125,8 +160,9 @@ fn least_step(bits: u8, r: u64) -> u8
 pub fn choose(numbers: &[i32], marks: &[u8], bits: u8) -> Choice
     ensures { λ r. ⌜ ((d : ℤ) → (r .reference ≡ theReference (record { numbers = now (numbers .entry); marks = now (marks .entry); d = d })) × (r .exponent ≡ theExponent (record { numbers = now (numbers .entry); marks = now (marks .entry); d = d }) bits)) ⌝ }
 {
-    let r = reference(numbers, marks);
-    let e = least_step(bits, spread(numbers, marks, r));
+    let x = walk(numbers, marks);
+    let r = pick(x.marked, x.low, 0);
+    let e = least_step(bits, spread(r, x.high));
     Choice {
         reference: r,
         exponent: e,

@@ -1,27 +1,23 @@
 // The writer: a message of the parts given, into lent octets. It refuses by rows 5, 6, 7, 9, 10, 11, 13 and 14 of the table, and a refusal
-// writes nothing. The packer, a message of a source field, is built on its parts (packing.rt).
+// writes nothing.
 ghost use mathlib.Core.Path.{_≡_};
 ghost use Rattle.rules.specs.Writing.{writeOf, outputAfter};
-ghost use Rattle.writer.specs.Given.{parts};
+ghost use Rattle.sections.specs.Given.{parts};
 
-mod gathering; // gathering.rt: the data section and the end
-mod judging; // judging.rt: rows 5 to 13 over the parts given
-mod laying; // laying.rt: the sections before the data
-mod packing; // packing.rt: the message of a source field
+mod gathering; // gathering.rt: the values at present points
 
-use gathering::lay_back;
+use gathering::put_values;
 use grid::grid_from;
 use grid::points;
 use grid::the_grid;
-use judging::judge;
-use laying::lay_front;
-use laying::message_room;
-use laying::present;
-pub use packing::pack;
+use places::SEVENS;
+use puts::put_four;
 use rules::Form;
 use rules::Refusal;
 use rules::Scale;
 use rules::Written;
+use sections::lay;
+use writable::judge;
 
 fn answer(refusal: Refusal, len: u32) -> Written
     ensures { λ r. ⌜ r ≡ record { refusal = refusal; len = len } ⌝ }
@@ -50,13 +46,19 @@ pub fn write(
     if refusal.number != 0 {
         return answer(refusal, 0);
     }
-    let m = present(marks);
-    let len = message_room(pds.len(), form, n, m);
-    let octets = len as u32;
-    if out.len() < len {
+    let frame = lay(pds, form, scale, marks, out);
+    if frame.len == 0 {
         return answer(Refusal { number: 14 }, 0);
     }
-    let d = lay_front(pds, form, marks, octets, out);
-    lay_back(form.packing, scale, values, marks, m, out, d);
-    answer(Refusal { number: 0 }, octets)
+    let at = frame.at;
+    let end = frame.len as usize - 4;
+    put_values(
+        values,
+        marks,
+        form.packing.bits,
+        frame.present,
+        &mut out[at..],
+    );
+    put_four(out, end, 1, SEVENS);
+    answer(Refusal { number: 0 }, frame.len)
 }

@@ -1,89 +1,62 @@
--- The stages 18, 15, 16 and 17: each return is a law of Stages over what the calls promise. Of the places on the way, b is the function's start,
--- and at g, f and t the tests of 18, 15 and 16 have passed.
-use Rattle.checker.proofs.Stages as R
+-- The rows 18, 15, 16 and 17: two returns, each a law of Stages over what the calls promise.
+use Rattle.checker.proofs.Rows.{bits-most, data-start}
+use Rattle.checker.proofs.Stages.{sizes-bad, sizes-good, first-of}
 use borrow.Author.Needs.{needs}
 use native.Mathlib.Omega.{arith}
-use mathlib.Core.Path.{sym, _∙_}
+use mathlib.Core.Path.{_∙_}
+use mir.Syntax.{w32}
 use mir.Facts.{toZ-ofZ}
 use Rattle.checker.proofs.judging.judge.Statement.{statement}
 use Rattle.checker.proofs.judging.judge.Tie as tie
 
 returns : tie.Need-returns
-returns c =
-    let b = c .before .before .before .before .before in
-    R.stage-18 _ _ _ (b .pre .0) (b .pre .1) _ _ _ _ (toZ-ofZ (b .fits .d)) _ (c .before .source-bad .ensures) (c .if1 .taken)
-
-differs-requires : tie.Need-differs-requires
-differs-requires c κs = (c .before .before .before .before .before .pre, sym (c .before .source-bad .ensures _) ∙ c .if1 .left)
-
-returns-2 : tie.Need-returns-2
-returns-2 c =
-    let g = c .before .before in
-    let b = g .before .before .before .before .before in
-    R.stage-15 _ _ _ (b .pre .0) (b .pre .1) _ _ _ _ (toZ-ofZ (b .fits .d)) _ (g .before .source-bad .ensures) (g .if1 .left) _ (c .before .differs .ensures) (c .if2 .taken)
-
-returns-3 : tie.Need-returns-3
-returns-3 c =
-    let f = c .before .before .before in
-    let g = f .before .before in
-    let b = g .before .before .before .before .before in
-    R.stage-16 _ _ _ (b .pre .0) (b .pre .1) _ _ _ _ (toZ-ofZ (b .fits .d)) _ (g .before .source-bad .ensures) (g .if1 .left) _ (f .before .differs .ensures) (f .if2 .left) _ (c .before .scale-bad .ensures) (c .if3 .taken)
+returns c = sizes-bad _ _ _ _ _ (c .if1 .taken)
 
 add-from : tie.Need-add-from
 add-from c =
-    let t = c .before .before .before in
-    let f = t .before .before .before in
-    let g = f .before .before in
-    let b = g .before .before .before .before .before in
-    let r = R.ready _ _ _ (b .pre .0) (b .pre .1) _ _ _ _ (toZ-ofZ (b .fits .d)) _ (g .before .source-bad .ensures) (g .if1 .left) _ (f .before .differs .ensures) (f .if2 .left) _ (t .before .scale-bad .ensures) (t .if3 .left) in
-    record { fits = omega (arith, r .start) }
+    let b = c .before .before .before .before .before .before .before .before in
+    record { fits = omega (arith, data-start _ _ _ (b .pre .0) (b .pre .1)) }
 
 mul-from : tie.Need-mul-from
 mul-from c =
-    let t = c .before .before .before in
-    let f = t .before .before .before in
-    let g = f .before .before in
-    let b = g .before .before .before .before .before in
-    let r = R.ready _ _ _ (b .pre .0) (b .pre .1) _ _ _ _ (toZ-ofZ (b .fits .d)) _ (g .before .source-bad .ensures) (g .if1 .left) _ (f .before .differs .ensures) (f .if2 .left) _ (t .before .scale-bad .ensures) (t .if3 .left) in
-    record { fits = omega (arith, r .start) }
+    let b = c .before .before .before .before .before .before .before .before in
+    record { fits = omega (arith, data-start _ _ _ (b .pre .0) (b .pre .1)) }
 
-any-out-requires : tie.Need-any-out-requires
-any-out-requires c κs =
-    let t = c .before .before .before in
-    let f = t .before .before .before in
-    let g = f .before .before in
-    let b = g .before .before .before .before .before in
-    let r = R.ready _ _ _ (b .pre .0) (b .pre .1) _ _ _ _ (toZ-ofZ (b .fits .d)) _ (g .before .source-bad .ensures) (g .if1 .left) _ (f .before .differs .ensures) (f .if2 .left) _ (t .before .scale-bad .ensures) (t .if3 .left) in
-    (r .scale, ((r .bits, omega (arith, r .start)), ((r .lists, r .most), r .marked)))
+survey-requires : tie.Need-survey-requires
+survey-requires c κs =
+    let t = c .before .before .before .before .before .before in
+    let b = t .before .before .before .before in
+    let from = data-start _ _ _ (b .pre .0) (b .pre .1) in
+    ((c .step-of .ensures .0, (bits-most _ _ _ (b .pre .0) (b .pre .1), omega (arith, from))), sizes-good (b .args .numbers .now) (b .args .marks .now) (t .if1 .left))
 
-returns-4 : tie.Need-returns-4
-returns-4 c =
-    let t = c .before .before .before .before .before in
-    let f = t .before .before .before in
-    let g = f .before .before in
-    let b = g .before .before .before .before .before in
-    R.stage-17 _ _ _ (b .pre .0) (b .pre .1) _ _ _ _ (toZ-ofZ (b .fits .d)) _ (g .before .source-bad .ensures) (g .if1 .left) _ (f .before .differs .ensures) (f .if2 .left) _ (t .before .scale-bad .ensures) (t .if3 .left) _ (c .before .any-out .ensures) (c .if4 .taken)
-
-returns-5 : tie.Need-returns-5
-returns-5 c =
-    let t = c .before .before .before .before .before in
-    let f = t .before .before .before in
-    let g = f .before .before in
-    let b = g .before .before .before .before .before in
-    R.stage-yes _ _ _ (b .pre .0) (b .pre .1) _ _ _ _ (toZ-ofZ (b .fits .d)) _ (g .before .source-bad .ensures) (g .if1 .left) _ (f .before .differs .ensures) (f .if2 .left) _ (t .before .scale-bad .ensures) (t .if3 .left) _ (c .before .any-out .ensures) (c .if4 .left)
+returns-2 : tie.Need-returns-2
+returns-2 c =
+    let k = c .before .before .before in
+    let q = k .before .before .before in
+    let v = q .before .before .before .before in
+    let w = v .before .before in
+    let t = w .before .before .before .before .before in
+    let b = t .before .before .before .before in
+    let r = toZ-ofZ {w = w32} {z = w .whole-of .result} (record { sfits = w .whole-of .ok }) ∙ w .whole-of .ensures in
+    first-of _ _ _ _ _ (t .if1 .left) _ (b .pre .0) (b .pre .1) _ (toZ-ofZ (b .fits .d)) _ r _ (v .before .step-of .ensures .1) _ _ _ _ (v .survey .ensures) _ (k .before .before .scale-bad .ensures) _
+    (q .decimal-differs .ensures) _ _ _ _ (k .before .refuse .ensures) (k .refuse2 .ensures) (c .before .refuse3 .ensures) (c .refuse4 .ensures)
 
 pub judge-spec : {M : Type 1} → statement M
 judge-spec =
     tie.close
     (tie.spec
-    (λ c κs. search needs)
+    (λ c. search needs)
     returns
-    differs-requires
-    returns-2
-    (λ c κs. search needs)
-    returns-3
     add-from
     mul-from
-    any-out-requires
-    returns-4
-    returns-5)
+    (λ c κs. search needs)
+    (λ c κs. search needs)
+    survey-requires
+    (λ c. search needs)
+    (λ c κs. search needs)
+    (λ c κs. search needs)
+    (λ c κs. search needs)
+    (λ c κs. search needs)
+    (λ c κs. search needs)
+    (λ c κs. search needs)
+    returns-2)

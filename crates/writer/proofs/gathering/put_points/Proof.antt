@@ -6,9 +6,10 @@ use mathlib.Core.Path.{refl}
 use native.Mathlib.Nat.{mod-lt}
 use lib.Dec.{lit<}
 use lib.ListN.{length, getD}
-use Rattle.octets.proofs.Over.{in-fits}
+use Rattle.puts.proofs.Over.{in-fits}
 use Rattle.rules.specs.Bitmap.{markOf, valueOf}
-use Rattle.writer.proofs.Filling.{Reached, step-few, step-value, four-put, reached-none, reached-filled, reached-more, reached-room, reached-few}
+use Rattle.sections.proofs.Placing.{number-put}
+use Rattle.sections.proofs.Filling.{Reached, step-few, step-value, reached-none, reached-filled, reached-more, reached-room, reached-few}
 use Rattle.writer.proofs.gathering.put_points.Statement.{statement}
 use Rattle.writer.proofs.gathering.put_points.Tie as tie
 
@@ -82,7 +83,7 @@ loop-again c =
     let s = l .inv .1 .size in (
       omega arith,
       reached-more f v (p .mark) (a .bits) (p .value) (omega arith) (a .out .now) (l .i) (l .out) (l .all) (l .q) (l .inv .1) (p .away (l .i)) _ refl _ (c .before .before .put-four .kept .0)
-          (four-put _ _ _ _ (omega arith) (mod-lt _ (lit< tt)) (c .before .before .put-four .ensures .1)),
+          (number-put _ _ _ 4 _ (omega arith) (mod-lt _ (lit< tt)) (c .before .before .put-four .ensures .1)),
     )
 
 returns : tie.Need-returns Inv-loop μ-loop

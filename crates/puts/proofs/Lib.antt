@@ -1,0 +1,6 @@
+pub mod Over
+pub mod Fits
+pub mod Puts
+pub mod Bits
+pub mod Lists
+pub mod Contracts

@@ -1,0 +1,113 @@
+-- What `all_below` and `pack` answer and leave, from the tests that the code makes.
+use mathlib.Core.Path.{_≡_, refl, sym, ap, ap₂, subst, _∙_}
+use mathlib.Core.Bool.{Bool, true, false, cond, not, _&&_, _||_}
+use mathlib.Core.List.{List}
+use Prim.Native.Nat.{ℕ, _+_, _*_, _^_, _≤_, _<_}
+use native.Mathlib.Nat.{mul-le-mul-left}
+use native.Mathlib.Omega.{arith}
+use mathlib.Core.Logic.{⊎-elim}
+use native.Mathlib.Numerals.{add-one}
+use borrow.Author.Tests.{leb-true, leb-false, ltb-true, not-true, lt-ltb, le-ltb, lt-leb, le-leb}
+use lib.Bits.{bitOr, or-lt, or-add-and, and-le-l, and-le-r}
+use lib.Pow.{pow-pos}
+use lib.Dec.{leb, ltb}
+use lib.ListN.{length, getD, List·getD-eq-default}
+use Rattle.bits.specs.Bits.{octetsFor, packedInto}
+use Rattle.bits.specs.Tables.{anyBelow}
+use Rattle.bits.proofs.Runs.{lt-or-ge}
+use Rattle.bits.proofs.Fill.{none-below, all-fail}
+use Rattle.bits.proofs.Trip.{Wide}
+use Rattle.bits.proofs.Tests.{and-left, and-right}
+use Rattle.puts.specs.Pack.{allBelow, packFits, packed}
+
+-- none of the numbers has a bit that all of them together have not
+pub or-below : (a b n : ℕ) → ltb (bitOr a b) (2 ^ n) ≡ ltb a (2 ^ n) && ltb b (2 ^ n)
+or-below a b n = ⊎-elim
+    (λ h. ⊎-elim
+    (λ k. lt-ltb (bitOr a b) (2 ^ n) (or-lt n a b h k) ∙ sym (rw (lt-ltb a (2 ^ n) h) (lt-ltb b (2 ^ n) k)))
+    (λ k. le-ltb (bitOr a b) (2 ^ n) (omega (arith, or-add-and a b, and-le-l a b)) ∙ sym (rw (lt-ltb a (2 ^ n) h) (le-ltb b (2 ^ n) k)))
+    (lt-or-ge b (2 ^ n)))
+    (λ h. le-ltb (bitOr a b) (2 ^ n) (omega (arith, or-add-and a b, and-le-r a b)) ∙ sym (rw (le-ltb a (2 ^ n) h) refl))
+    (lt-or-ge a (2 ^ n))
+
+pub below-none : (n : ℕ) (f : ℕ → Bool) → ltb 0 (2 ^ n) ≡ not (anyBelow f 0)
+unfolding anyBelow
+below-none n f = lt-ltb 0 (2 ^ n) (pow-pos n)
+
+pub below-turn : (n : ℕ) (vs : List ℕ) (i all : ℕ) → ltb all (2 ^ n) ≡ not (anyBelow (λ k. leb (2 ^ n) (getD vs k 0)) i)
+    → ltb (bitOr all (getD vs i 0)) (2 ^ n) ≡ not (anyBelow (λ k. leb (2 ^ n) (getD vs k 0)) (i + 1))
+unfolding anyBelow
+below-turn n vs i all e =
+    let f : ℕ → Bool = λ k. leb (2 ^ n) (getD vs k 0) in
+    or-below all (getD vs i 0) n ∙ ap₂ (λ (x y : Bool). x && y) e (turned (getD vs i 0) (2 ^ n)) ∙ sym (split (anyBelow f i) (f i)) ∙ ap (λ (x : ℕ). not (anyBelow f x)) (sym (add-one i))
+  where
+    turned : (x b : ℕ) → ltb x b ≡ not (leb b x)
+    turned x b = ⊎-elim
+        (λ h. lt-ltb x b h ∙ ap not (sym (lt-leb b x h)))
+        (λ h. le-ltb x b h ∙ ap not (sym (le-leb b x h)))
+        (lt-or-ge x b)
+
+    split : (x y : Bool) → not (x || y) ≡ not x && not y
+    split true y = refl
+    split false y = refl
+
+-- then each number is below 2 ^ n, also those past the end
+pub below-wide : (n : ℕ) (vs : List ℕ) → allBelow n vs ≡ true → Wide n vs
+unfolding allBelow
+below-wide n vs e k = ⊎-elim
+    (λ l. leb-false (2 ^ n) (getD vs k 0) (none-below (λ j. leb (2 ^ n) (getD vs j 0)) (length vs) (not-true (anyBelow (λ j. leb (2 ^ n) (getD vs j 0)) (length vs)) e) k l))
+    (λ g. subst (λ (x : ℕ). x < 2 ^ n) (sym (List·getD-eq-default vs 0 g)) (pow-pos n))
+    (lt-or-ge k (length vs))
+
+pub wide-below : (n : ℕ) (vs : List ℕ) → Wide n vs → allBelow n vs ≡ true
+unfolding allBelow
+wide-below n vs w = ap not (all-fail (λ k. leb (2 ^ n) (getD vs k 0)) (length vs) (λ k l. lt-leb (2 ^ n) (getD vs k 0) (w k)))
+
+pub pack-takes : (n : ℕ) (vs : List ℕ) (room : ℕ) → n ≤ 24 → length vs < 2 ^ 32 → Wide n vs → octetsFor (length vs * n) ≤ room → packFits n vs room ≡ true
+unfolding packFits
+pack-takes n vs room h l w r =
+    rw (le-leb n 24 h, lt-ltb (length vs) (2 ^ 32) l, wide-below n vs w, le-leb (octetsFor (length vs * n)) room r) refl
+
+-- what the two tests of `packable` decide
+module _ (n : ℕ) (vs : List ℕ) (room : ℕ) where
+  module _ (h : leb n 24 && ltb (length vs) (2 ^ 32) ≡ true) where
+    pub pack-few : length vs * n ≤ 2 ^ 32 * 24
+    pack-few =
+        let a = leb-true n 24 (and-left (leb n 24) (ltb (length vs) (2 ^ 32)) h) in
+        let b = ltb-true (length vs) (2 ^ 32) (and-right (leb n 24) (ltb (length vs) (2 ^ 32)) h) in
+        omega (arith, mul-le-mul-left (length vs) a)
+
+    pub pack-judged : (b : Bool) → b ≡ allBelow n vs → b && leb (octetsFor (length vs * n)) room ≡ packFits n vs room
+    unfolding packFits
+    pack-judged b e = ap₂ (λ (x y : Bool). x && (y && leb (octetsFor (length vs * n)) room)) (sym h) e
+
+  pub pack-refused : leb n 24 && ltb (length vs) (2 ^ 32) ≡ false → false ≡ packFits n vs room
+  unfolding packFits
+  pack-refused h = ap (λ (x : Bool). x && (allBelow n vs && leb (octetsFor (length vs * n)) room)) (sym h)
+
+  -- what is known where they fit
+  module _ (h : packFits n vs room ≡ true) where
+    both : leb n 24 && ltb (length vs) (2 ^ 32) ≡ true
+    unfolding packFits
+    both = and-left (leb n 24 && ltb (length vs) (2 ^ 32)) (allBelow n vs && leb (octetsFor (length vs * n)) room) h
+
+    rest : allBelow n vs && leb (octetsFor (length vs * n)) room ≡ true
+    unfolding packFits
+    rest = and-right (leb n 24 && ltb (length vs) (2 ^ 32)) (allBelow n vs && leb (octetsFor (length vs * n)) room) h
+
+    pub pack-width : n ≤ 24
+    pack-width = leb-true n 24 (and-left (leb n 24) (ltb (length vs) (2 ^ 32)) both)
+
+    pub pack-fits : length vs * n + 7 < 2 ^ 64
+    pack-fits = omega (arith, pack-few both)
+
+    pub pack-room : octetsFor (length vs * n) ≤ room
+    pack-room = leb-true (octetsFor (length vs * n)) room (and-right (allBelow n vs) (leb (octetsFor (length vs * n)) room) rest)
+
+    pub pack-wide : Wide n vs
+    pack-wide = below-wide n vs (and-left (allBelow n vs) (leb (octetsFor (length vs * n)) room) rest)
+
+module _ (n : ℕ) (vs out : List ℕ) where
+  pub pack-left : (t : Bool) → t ≡ packFits n vs (length out) → cond t (packedInto n vs out) out ≡ packed n vs out
+  unfolding packed
+  pack-left t e = ap (λ (x : Bool). cond x (packedInto n vs out) out) e

@@ -1,0 +1,115 @@
+// Numbers of up to 24 bits each packed one after another into octets from their start on: four octets are stored at each one's place, and
+// the four after the data, which the last stores may touch, are read first and put back.
+ghost use mathlib.Core.Path.{_≡_};
+ghost use Prim.Native.Nat.{ℕ, _+_, _*_, _/_, _^_, _<_, _≤_};
+ghost use lib.ListN.{getD, length};
+ghost use Rattle.bits.specs.Bits.{octetsFor, packedInto};
+ghost use Rattle.puts.specs.Cover.{over};
+ghost use Rattle.puts.specs.Pack.{allBelow, packFits, packed};
+use crate::fields::placed;
+use crate::words::below;
+use crate::words::store;
+use octets::four;
+
+// Whether each number of vs has no more than n bits: then none of them has a higher bit.
+pub fn all_below(vs: &[u32], n: u8) -> bool
+    ensures { λ r. ⌜ r ≡ allBelow n (now (vs .entry)) ⌝ }
+{
+    let mut all: u32 = 0;
+    let mut i: usize = 0;
+    while i < vs.len() {
+        all = all | vs[i];
+        i += 1;
+    }
+    below(all, n)
+}
+
+// Eight numbers fill n octets, and each eight start anew.
+fn pack_over(vs: &[u32], n: usize, out: &mut [u8])
+    requires { ⌜ n ≤ 24 ⌝ }
+    requires { ⌜ ((k : ℕ) → getD (now vs) k 0 < 2 ^ n) ⌝ }
+    requires { ⌜ length (now vs) * n / 8 + 4 ≤ length (now out) ⌝ }
+    ensures { λ _. ⌜ now (out .exit) ≡ over n (now (vs .entry)) (length (now (vs .entry))) (now (out .entry)) ⌝ }
+{
+    let mut k: usize = 0;
+    let mut i: usize = 0;
+    while vs.len() - i >= 8 {
+        let mut all: u64 = 0;
+        let mut j: usize = 0;
+        let mut p: usize = 0;
+        while j < 8 {
+            all = (all << n) + vs[i + j] as u64;
+            store(out, k + p / 8, 4, (all << (32 - p % 8 - n)) % 4294967296);
+            p += n;
+            j += 1;
+        }
+        k += n;
+        i += 8;
+    }
+    let mut rest: u64 = 0;
+    let mut q: usize = 0;
+    while i < vs.len() {
+        rest = (rest << n) + vs[i] as u64;
+        store(out, k + q / 8, 4, (rest << (32 - q % 8 - n)) % 4294967296);
+        q += n;
+        i += 1;
+    }
+}
+
+// One by one, where nothing follows the data.
+fn pack_each(vs: &[u32], n: usize, out: &mut [u8])
+    requires { ⌜ n ≤ 32 ⌝ }
+    requires { ⌜ ((k : ℕ) → getD (now vs) k 0 < 2 ^ n) ⌝ }
+    requires { ⌜ length (now vs) * n < 2 ^ 64 ⌝ }
+    requires { ⌜ octetsFor (length (now vs) * n) ≤ length (now out) ⌝ }
+    ensures { λ _. ⌜ now (out .exit) ≡ packedInto n (now (vs .entry)) (now (out .entry)) ⌝ }
+{
+    let mut i: usize = 0;
+    let mut place: usize = 0;
+    while i < vs.len() {
+        placed(out, place, n, vs[i]);
+        place += n;
+        i += 1;
+    }
+}
+
+// Over what follows the data where that is four octets or more, which are then put back.
+fn pack_all(vs: &[u32], n: usize, out: &mut [u8])
+    requires { ⌜ n ≤ 24 ⌝ }
+    requires { ⌜ ((k : ℕ) → getD (now vs) k 0 < 2 ^ n) ⌝ }
+    requires { ⌜ length (now vs) * n + 7 < 2 ^ 64 ⌝ }
+    requires { ⌜ octetsFor (length (now vs) * n) ≤ length (now out) ⌝ }
+    ensures { λ _. ⌜ now (out .exit) ≡ packedInto n (now (vs .entry)) (now (out .entry)) ⌝ }
+{
+    let end = (vs.len() * n + 7) / 8;
+    if out.len() - end >= 4 {
+        let after = four(out, end, 1) as u64;
+        pack_over(vs, n, out);
+        store(out, end, 4, after);
+    } else {
+        pack_each(vs, n, out);
+    }
+}
+
+// Whether the numbers and their width can be packed into room octets.
+fn packable(vs: &[u32], n: u8, room: usize) -> bool
+    ensures { λ r. ⌜ r ≡ packFits n (now (vs .entry)) room ⌝ }
+{
+    if (n <= 24) & (vs.len() < 4294967296) {
+        return all_below(vs, n) & ((vs.len() * n as usize + 7) / 8 <= room);
+    }
+    false
+}
+
+// The numbers of n bits each in vs are put one after another from the start of out, and zeros to the end of the octet. Where n is over 24, a
+// number has more bits, there are 2^32 or more of them or out is too short, nothing changes and the answer is false.
+pub fn pack(vs: &[u32], n: u8, out: &mut [u8]) -> bool
+    ensures { λ r. ⌜ r ≡ packFits n (now (vs .entry)) (length (now (out .entry))) ⌝ }
+    ensures { λ _. ⌜ now (out .exit) ≡ packed n (now (vs .entry)) (now (out .entry)) ⌝ }
+{
+    if packable(vs, n, out.len()) {
+        pack_all(vs, n as usize, out);
+        return true;
+    }
+    false
+}

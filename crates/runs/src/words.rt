@@ -1,0 +1,28 @@
+// The numbers that four and eight octets in memory make.
+ghost use mathlib.Core.Path.{_≡_};
+ghost use Prim.Native.Nat.{_+_, _*_, _<_, _≤_};
+ghost use lib.ListN.{length};
+ghost use Rattle.bits.specs.Bits.{bitsIn, run};
+
+// An octet, to be part of a number.
+pub(crate) fn wide(x: u8) -> u64
+    ensures { λ r. ⌜ (r ≡ x) × (r < 256) ⌝ }
+{
+    x as u64
+}
+
+// The number that the four octets from octet k on make.
+pub(crate) fn word(s: &[u8], k: usize) -> u64
+    requires { ⌜ k + 4 ≤ length (now s) ⌝ }
+    ensures { λ r. ⌜ r ≡ run (bitsIn 8 (now (s .entry))) (k * 8) 32 ⌝ }
+{
+    ((wide(s[k]) * 256 + wide(s[k + 1])) * 256 + wide(s[k + 2])) * 256 + wide(s[k + 3])
+}
+
+// The number that the eight octets from octet k on make.
+pub(crate) fn word8(s: &[u8], k: usize) -> u64
+    requires { ⌜ k + 8 ≤ length (now s) ⌝ }
+    ensures { λ r. ⌜ r ≡ run (bitsIn 8 (now (s .entry))) (k * 8) 64 ⌝ }
+{
+    word(s, k) * 4294967296 + word(s, k + 4)
+}

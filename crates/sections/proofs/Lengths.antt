@@ -1,0 +1,119 @@
+-- How many octets sections take: bounds that keep code's sums in their types, and that the rooms are the sections' lengths.
+use mathlib.Core.Path.{_≡_, refl, sym, ap, _∙_}
+use mathlib.Core.Bool.{false}
+use mathlib.Core.List.{List, [], _++_}
+use Prim.Native.Nat.{ℕ, _+_, _-_, _*_, _≤_, _<_}
+use native.Mathlib.Nat.{mul-le-mul}
+use native.Mathlib.Omega.{arith}
+use lib.IntN.{natAbs}
+use lib.ListN.{length}
+use Rattle.bits.specs.Bits.{bitsIn, octetsFor, runs, placed}
+use Rattle.bits.specs.Tables.{tab}
+use Rattle.bits.proofs.Trip.{length-runs}
+use Rattle.rules.specs.declared.{Found.Found, Found.the-variants.Nothing, Found.the-variants.Given, Grid.Grid, Bitmap.Bitmap, Bitmap.the-variants.Without, Bitmap.the-variants.Carried, Bitmap.the-variants.Stored, Form.Form, Scale.Scale, Packing.Packing}
+use Rattle.rules.specs.Numbers.{laid, evenFrom, sign}
+use Rattle.rules.specs.Table.{anyOf}
+use Rattle.rules.specs.Grid.{gridFields, gdsOf, gridFaults}
+use Rattle.rules.specs.Bitmap.{bmsOf}
+use Rattle.rules.specs.Values.{bdsOf}
+use Rattle.rules.specs.Writing.{gdsFor}
+use Rattle.reply.proofs.Stages.{failed}
+use Rattle.theorems.proofs.Whole.{within}
+use Rattle.theorems.proofs.Fields.{laid-length}
+use Rattle.theorems.proofs.DataSection.{bds-length}
+use Rattle.sections.specs.Layout.{shapeFields, cornerFields, stepFields, bmsFields, gdsRoom, bmsRoom, bdsRoom, frontRoom, messageRoom}
+use Rattle.sections.proofs.Placing.{laid-both, three-placed}
+
+pub gds-few : (f : Found) → gdsRoom f ≤ 32
+unfolding gdsRoom
+gds-few Nothing = omega arith
+gds-few (Given g) = omega arith
+
+pub bms-few : (b : Bitmap) (n : ℕ) → n ≤ 65536 → bmsRoom b n ≤ 8198
+unfolding bmsRoom
+bms-few Without n h = omega arith
+bms-few Carried n h = omega arith
+bms-few (Stored k) n h = omega arith
+
+pub bits-few : (bits m : ℕ) → bits ≤ 24 → m ≤ 65536 → m * bits ≤ 1572864
+bits-few bits m h k = mul-le-mul k h
+
+pub bds-few : (bits m : ℕ) → bits ≤ 24 → m ≤ 65536 → bdsRoom bits m ≤ 196620
+unfolding bdsRoom
+bds-few bits m h k = omega (arith, bits-few bits m h k)
+
+pub message-few : (pds : ℕ) (form : Form) (n m : ℕ) → pds ≤ 1024 → n ≤ 65536 → m ≤ 65536 → form .packing .bits ≤ 24 → messageRoom pds form n m ≤ 205886
+unfolding messageRoom frontRoom
+message-few pds form n m p h k b = omega (arith, gds-few (form .grid), bms-few (form .bitmap) n h, bds-few (form .packing .bits) m b k)
+
+-- how a data section's length holds its bits
+pub record Held (bits m : ℕ) : Type 0 where
+  pub least : 12 ≤ bdsRoom bits m
+  pub most : bdsRoom bits m ≤ 196620
+  pub low : octetsFor (m * bits) ≤ bdsRoom bits m - 11
+  pub high : bdsRoom bits m - 11 ≤ octetsFor (m * bits) + 1
+  pub holds : m * bits ≤ 8 * (bdsRoom bits m - 11)
+  pub spare : 8 * (bdsRoom bits m - 11) ≤ m * bits + 15
+  pub few : m * bits ≤ 1572864
+
+pub bds-held : (bits m : ℕ) → bits ≤ 24 → m ≤ 65536 → Held bits m
+unfolding bdsRoom
+bds-held bits m h k =
+    let f = bits-few bits m h k in
+    record { least = omega arith; most = omega arith; low = omega arith; high = omega arith; holds = omega arith; spare = omega arith; few = f }
+
+-- what 9 leaves of a grid's signed fields
+pub record Small (g : Grid) : Type 0 where
+  pub la1 : natAbs (g .la1 .value) < sign 3
+  pub lo1 : natAbs (g .lo1 .value) < sign 3
+  pub la2 : natAbs (g .la2 .value) < sign 3
+  pub lo2 : natAbs (g .lo2 .value) < sign 3
+
+pub grid-small : (g : Grid) → anyOf (gridFaults g) ≡ false → Small g
+unfolding gridFaults
+grid-small g e =
+    let f = failed (gridFaults g) e in
+    let h = f .1 .1 .1 in
+    record {
+      la1 = omega (arith, within 90000 (g .la1 .value) (h .0));
+      lo1 = omega (arith, within 360000 (g .lo1 .value) (h .1 .1 .0));
+      la2 = omega (arith, within 90000 (g .la2 .value) (h .1 .0));
+      lo2 = omega (arith, within 360000 (g .lo2 .value) (h .1 .1 .1 .0));
+    }
+
+-- the rooms are lengths
+pub gds-length : (g : Grid) → length (gdsOf g) ≡ 32
+unfolding gdsOf gridFields
+gds-length g = laid-length (gridFields g) []
+
+pub gds-room : (f : Found) → length (gdsFor f) ≡ gdsRoom f
+unfolding gdsRoom
+gds-room Nothing = refl
+gds-room (Given g) = gds-length g
+
+pub bms-room : (b : Bitmap) (present : ℕ → ℕ) (n : ℕ) → length (bmsOf b present n) ≡ bmsRoom b n
+unfolding bmsRoom bmsOf
+bms-room Without present n = refl
+bms-room Carried present n =
+    let len = evenFrom (6 + octetsFor n) in
+    laid-length (bmsFields len (8 * (len - 6) - n) 0) (runs (bitsIn 1 (tab present n)) 0 8 (len - 6))
+    ∙ ap (λ (x : ℕ). 6 + x) (length-runs (bitsIn 1 (tab present n)) 0 8 (len - 6)) ∙ omega arith
+bms-room (Stored k) present n = laid-length (bmsFields 6 0 k) []
+
+pub bds-room : (p : Packing) (c : Scale) (xs : List ℕ) → length (bdsOf p c xs) ≡ bdsRoom (p .bits) (length xs)
+unfolding bdsRoom
+bds-room p c xs = bds-length p c xs
+
+-- a GDS laid down in three
+pub gds-placed : (d : List ℕ) (at : ℕ) (g : Grid) → at + 32 ≤ length d → (o₁ o₂ o₃ : List ℕ) → o₁ ≡ placed d at (laid (shapeFields (g .ni) (g .nj)) [])
+    → o₂ ≡ placed o₁ (at + 10) (laid (cornerFields (g .la1) (g .lo1) (g .flags) (g .la2) (g .lo2)) [])
+    → o₃ ≡ placed o₂ (at + 23) (laid (stepFields (g .di) (g .dj) (g .scan)) []) → o₃ ≡ placed d at (gdsOf g)
+unfolding gdsOf gridFields
+gds-placed d at g h o₁ o₂ o₃ e₁ e₂ e₃ =
+    let P = shapeFields (g .ni) (g .nj) in
+    let Q = cornerFields (g .la1) (g .lo1) (g .flags) (g .la2) (g .lo2) in
+    let R = stepFields (g .di) (g .dj) (g .scan) in
+    let l : length (laid Q []) ≡ 13 = laid-length Q [] in
+    let m : length (laid R []) ≡ 9 = laid-length R [] in
+    three-placed d at (laid P []) (laid Q []) (laid R []) (at + 10) (at + 23) (ap (λ (n : ℕ). at + n) (sym (laid-length P []))) (omega arith) (omega arith) o₁ o₂ o₃ e₁ e₂ e₃
+    ∙ ap (placed d at) (sym (laid-both P (Q ++ R) ∙ ap (λ (x : List ℕ). laid P [] ++ x) (laid-both Q R)))

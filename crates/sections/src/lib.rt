@@ -1,0 +1,73 @@
+// All of a message but its values, laid down in lent octets: the indicator, the sections before the data, and what stands in the data section
+// before the data. Whoever lends the octets then puts the values and, last, '7777': a loop that puts values may store zeros past the data.
+ghost use mathlib.Core.Path.{_≡_};
+ghost use lib.ListN.{length};
+ghost use Rattle.sections.specs.Framing.{givenBad, frameOf, framed};
+
+mod laying; // laying.rt: the sections octet by octet
+mod rooms; // rooms.rt: how many octets each takes
+
+use grid::grid_bad;
+use laying::lay_front;
+use laying::put_head;
+use rooms::message_room;
+use rooms::present;
+use rules::Form;
+use rules::Found;
+use rules::Scale;
+use rules::bounds::PDS_MOST;
+use rules::bounds::POINTS_MOST;
+use writable::scale_bad;
+
+// Where the data begin, how many points are present, and how long the message is. Zeros where nothing was laid down.
+pub struct Frame {
+    pub at: usize,
+    pub present: u32,
+    pub len: u32,
+}
+
+fn given_bad(grid: Found) -> bool
+    ensures { λ r. ⌜ r ≡ givenBad grid ⌝ }
+{
+    match grid {
+        Found::Nothing => false,
+        Found::Given(g) => grid_bad(g),
+    }
+}
+
+// Lays down all but the values of a message of a PDS, a form, E and R, and marks, of which 1 is present. Parts out of the rules' bounds, and
+// octets that the whole message does not fit in, are left alone.
+pub fn lay(pds: &[u8], form: Form, scale: Scale, marks: &[u8], out: &mut [u8]) -> Frame
+    ensures { λ r. ⌜ r ≡ frameOf (now (pds .entry)) form scale (now (marks .entry)) (length (now (out .entry))) ⌝ }
+    ensures { λ _. ⌜ now (out .exit) ≡ framed (now (pds .entry)) form scale (now (marks .entry)) (now (out .entry)) ⌝ }
+{
+    let grid = form.grid;
+    let packing = form.packing;
+    if ((PDS_MOST as usize) < pds.len())
+        | ((POINTS_MOST as usize) < marks.len())
+        | given_bad(grid)
+        | scale_bad(scale, packing)
+    {
+        return Frame {
+            at: 0,
+            present: 0,
+            len: 0,
+        };
+    }
+    let m = present(marks);
+    let len = message_room(pds.len(), form, marks.len() as u32, m);
+    if out.len() < len {
+        return Frame {
+            at: 0,
+            present: 0,
+            len: 0,
+        };
+    }
+    let d = lay_front(pds, form, marks, len as u32, out);
+    put_head(packing, scale, m, out, d);
+    Frame {
+        at: d + 11,
+        present: m,
+        len: len as u32,
+    }
+}

@@ -1,0 +1,13 @@
+-- Rows 5, 6, 7 and 9 as nested refusals: the table opened, by congruence.
+use Rattle.rules.specs.Table.{first, firstOr}
+use Rattle.writable.specs.Rows.{frontRows}
+use borrow.Author.Needs.{needs}
+use Rattle.writable.proofs.front.Statement.{statement}
+use Rattle.writable.proofs.front.Tie as tie
+
+returns : tie.Need-returns
+unfolding first firstOr frontRows
+returns c = cc
+
+pub front-spec : {M : Type 1} → statement M
+front-spec = tie.close (tie.spec (λ c κs. search needs) (λ c κs. search needs) (λ c κs. search needs) (λ c κs. search needs) (λ c κs. search needs) (λ c κs. search needs) (λ c κs. search needs) (λ c κs. search needs) (λ c κs. search needs) returns)

@@ -1,0 +1,12 @@
+-- Bit 2 of PDS octet 8, by congruence.
+use Rattle.rules.specs.Places.{hasBitmap}
+use borrow.Author.Needs.{needs}
+use Rattle.writable.proofs.has_bitmap.Statement.{statement}
+use Rattle.writable.proofs.has_bitmap.Tie as tie
+
+returns : tie.Need-returns
+unfolding hasBitmap
+returns c = cc
+
+pub has-bitmap-spec : {M : Type 1} → statement M
+has-bitmap-spec = tie.close (tie.spec (λ c κs. search needs) returns)

@@ -1,0 +1,12 @@
+-- Bit 1 of PDS octet 8, by congruence.
+use Rattle.rules.specs.Places.{hasGrid}
+use borrow.Author.Needs.{needs}
+use Rattle.writable.proofs.has_grid.Statement.{statement}
+use Rattle.writable.proofs.has_grid.Tie as tie
+
+returns : tie.Need-returns
+unfolding hasGrid
+returns c = cc
+
+pub has-grid-spec : {M : Type 1} → statement M
+has-grid-spec = tie.close (tie.spec (λ c κs. search needs) returns)

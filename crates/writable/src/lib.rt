@@ -1,0 +1,272 @@
+// Rows 5 to 13 of the writer's table over the parts given: which message may be written.
+ghost use mathlib.Core.Path.{_≡_};
+ghost use mathlib.Core.Bool.{_&&_};
+ghost use mathlib.Core.List.{List};
+ghost use Prim.Native.Nat.{ℕ, _≤_};
+ghost use lib.ListN.{length};
+ghost use Rattle.bits.specs.Bits.{octetsFor};
+ghost use Rattle.rules.specs.declared.Bitmap.the-variants.{Stored};
+ghost use Rattle.rules.specs.Bounds.{exponentMost};
+ghost use Rattle.rules.specs.Numbers.{beyond};
+ghost use Rattle.rules.specs.Table.{anyOf, first};
+ghost use Rattle.rules.specs.Places.{hasGrid, hasBitmap};
+ghost use Rattle.rules.specs.Bitmap.{bitmapGiven};
+ghost use Rattle.rules.specs.Writing.{pdsFaults, storedFaults, gridGiven};
+ghost use Rattle.writable.specs.Rows.{frontRows, marksDiffer, scaleFaults, middleRows, earlyRows, strays, pointsBad, listFaults, ownRows};
+
+mod marks; // marks.rt: the same by the marks alone
+
+use grid::grid_bad;
+use grid::grid_missing;
+use grid::the_grid;
+pub use marks::judge_marks;
+use marks::marks_off;
+use octets::octet;
+use octets::three;
+use puts::all_below;
+use reply::choose;
+use reply::refuse;
+use rules::Bitmap;
+use rules::Form;
+use rules::Found;
+use rules::Packing;
+use rules::Refusal;
+use rules::Scale;
+use rules::Signed;
+use rules::bounds::EXPONENT_MOST;
+use rules::bounds::PDS_LEAST;
+use rules::bounds::PDS_MOST;
+use time::time_bad;
+use values::packing_bad;
+
+// 5: the PDS's length, and its octets 1-3.
+pub fn pds_bad(pds: &[u8]) -> bool
+    ensures { λ r. ⌜ r ≡ anyOf (pdsFaults (now (pds .entry))) ⌝ }
+{
+    (pds.len() % 2 == 1)
+        | ((pds.len() < PDS_LEAST as usize) | ((PDS_MOST as usize) < pds.len()))
+        | (three(pds, 0, 1) as usize != pds.len())
+}
+
+// 5, 6, 7 and 9.
+fn front(pds: &[u8], found: Found) -> Refusal
+    ensures { λ r. ⌜ r ≡ first (frontRows (now (pds .entry)) found) ⌝ }
+{
+    let none = Refusal { number: 0 };
+    let ground = refuse(
+        7,
+        grid_missing(found),
+        refuse(9, grid_bad(the_grid(found)), none),
+    );
+    refuse(5, pds_bad(pds), refuse(6, time_bad(pds, 0), ground))
+}
+
+// Whether one of the first n bits of a stored bitmap is not the same number as the mark.
+fn marks_differ(store: &[u8], marks: &[u8], n: usize) -> bool
+    requires { ⌜ n ≤ length (now marks) ⌝ }
+    requires { ⌜ octetsFor n ≤ length (now store) ⌝ }
+    ensures { λ r. ⌜ r ≡ marksDiffer (now (store .entry)) (now (marks .entry)) n ⌝ }
+{
+    let mut bad = false;
+    let mut i: usize = 0;
+    while i < n {
+        let bit = (store[i / 8] >> (7 - i % 8)) % 2;
+        bad = bad | (bit != marks[i]);
+        i += 1;
+    }
+    bad
+}
+
+// 10, of a form that wants the stored bitmap of a number.
+fn store_bad(number: u16, store: &[u8], wanted: u16, long: usize, marks: &[u8], n: u32) -> bool
+    ensures { λ r. ⌜ ((values : List ℕ) → length values ≡ long → r ≡ anyOf (storedFaults (Stored wanted) (record { number = number; octets = now (store .entry) }) values (now (marks .entry)) n)) ⌝ }
+{
+    if (wanted == 0) | (number != wanted) | (store.len() < (n as usize + 7) / 8) {
+        return true;
+    }
+    if (long == n as usize) & (marks.len() == n as usize) {
+        return marks_differ(store, marks, n as usize);
+    }
+    false
+}
+
+// 10, of values whose list is so long.
+fn stored_bad(bitmap: Bitmap, number: u16, store: &[u8], long: usize, marks: &[u8], n: u32) -> bool
+    ensures { λ r. ⌜ ((values : List ℕ) → length values ≡ long → r ≡ anyOf (storedFaults bitmap (record { number = number; octets = now (store .entry) }) values (now (marks .entry)) n)) ⌝ }
+{
+    match bitmap {
+        Bitmap::Without => false,
+        Bitmap::Carried => false,
+        Bitmap::Stored(wanted) => store_bad(number, store, wanted, long, marks, n),
+    }
+}
+
+fn exponent_bad(e: Signed) -> bool
+    ensures { λ r. ⌜ r ≡ beyond exponentMost (e .value) ⌝ }
+{
+    (EXPONENT_MOST < e.value) | (e.value < -EXPONENT_MOST)
+}
+
+// 11: E, and the packing.
+pub fn scale_bad(scale: Scale, packing: Packing) -> bool
+    ensures { λ r. ⌜ r ≡ anyOf (scaleFaults scale packing) ⌝ }
+{
+    exponent_bad(scale.e) | packing_bad(packing)
+}
+
+// 10 and 11, of values whose list is so long.
+fn middle(
+    form: Form,
+    scale: Scale,
+    number: u16,
+    store: &[u8],
+    long: usize,
+    marks: &[u8],
+    n: u32,
+) -> Refusal
+    ensures { λ r. ⌜ ((values : List ℕ) → length values ≡ long → r ≡ first (middleRows form scale (record { number = number; octets = now (store .entry) }) values (now (marks .entry)) n)) ⌝ }
+{
+    let bitmap = form.bitmap;
+    refuse(
+        10,
+        stored_bad(bitmap, number, store, long, marks, n),
+        refuse(11, scale_bad(scale, form.packing), Refusal { number: 0 }),
+    )
+}
+
+// 5 to 11, of values whose list is so long. No point is looked at before the grid is taken.
+pub(crate) fn judge_early(
+    pds: &[u8],
+    form: Form,
+    scale: Scale,
+    number: u16,
+    store: &[u8],
+    long: usize,
+    marks: &[u8],
+    found: Found,
+    n: u32,
+) -> Refusal
+    ensures { λ r. ⌜ ((values : List ℕ) → length values ≡ long → r ≡ first (earlyRows (now (pds .entry)) form scale (record { number = number; octets = now (store .entry) }) values (now (marks .entry)) found n)) ⌝ }
+{
+    let early = front(pds, found);
+    if early.number != 0 {
+        return early;
+    }
+    middle(form, scale, number, store, long, marks, n)
+}
+
+// Whether a value other than 0 stands at an absent point. No branch on what stands there.
+fn stray(values: &[u32], marks: &[u8]) -> bool
+    requires { ⌜ length (now values) ≡ length (now marks) ⌝ }
+    ensures { λ r. ⌜ r ≡ strays (now (values .entry)) (now (marks .entry)) (length (now (marks .entry))) ⌝ }
+{
+    let mut bad = false;
+    let mut i: usize = 0;
+    while i < marks.len() {
+        bad = bad | ((marks[i] == 0) & (values[i] != 0));
+        i += 1;
+    }
+    bad
+}
+
+// The same, which is asked only where points may be absent.
+fn lost(bitmap: bool, values: &[u32], marks: &[u8]) -> bool
+    requires { ⌜ length (now values) ≡ length (now marks) ⌝ }
+    ensures { λ r. ⌜ r ≡ bitmap && strays (now (values .entry)) (now (marks .entry)) (length (now (marks .entry))) ⌝ }
+{
+    if bitmap {
+        return stray(values, marks);
+    }
+    false
+}
+
+// 13, at one of the points. Marks and values each in a loop of their own: lists of one width go through the machine faster.
+fn points_bad(bitmap: bool, bits: u8, values: &[u32], marks: &[u8]) -> bool
+    requires { ⌜ length (now values) ≡ length (now marks) ⌝ }
+    ensures { λ r. ⌜ r ≡ pointsBad bitmap bits (now (values .entry)) (now (marks .entry)) (length (now (marks .entry))) ⌝ }
+{
+    marks_off(bitmap, marks) | lost(bitmap, values, marks) | !all_below(values, bits)
+}
+
+// Whether the PDS at a slice's start announces a grid section.
+pub(crate) fn has_grid(pds: &[u8]) -> bool
+    ensures { λ r. ⌜ r ≡ hasGrid (now (pds .entry)) 0 ⌝ }
+{
+    128 <= octet(pds, 0, 8)
+}
+
+pub(crate) fn has_bitmap(pds: &[u8]) -> bool
+    ensures { λ r. ⌜ r ≡ hasBitmap (now (pds .entry)) 0 ⌝ }
+{
+    64 <= octet(pds, 0, 8) % 128
+}
+
+pub(crate) fn grid_given(grid: Found) -> bool
+    ensures { λ r. ⌜ r ≡ gridGiven grid ⌝ }
+{
+    match grid {
+        Found::Nothing => false,
+        Found::Given(_) => true,
+    }
+}
+
+pub(crate) fn bitmap_given(bitmap: Bitmap) -> bool
+    ensures { λ r. ⌜ r ≡ bitmapGiven bitmap ⌝ }
+{
+    match bitmap {
+        Bitmap::Without => false,
+        Bitmap::Carried => true,
+        Bitmap::Stored(_) => true,
+    }
+}
+
+// 13.
+fn lists_bad(pds: &[u8], form: Form, values: &[u32], marks: &[u8], n: u32) -> bool
+    ensures { λ r. ⌜ r ≡ anyOf (listFaults (now (pds .entry)) form (now (values .entry)) (now (marks .entry)) n) ⌝ }
+{
+    if (values.len() == n as usize) & (marks.len() == n as usize) {
+        let grid = form.grid;
+        let bitmap = form.bitmap;
+        let ground = grid_given(grid);
+        let gaps = bitmap_given(bitmap);
+        return points_bad(gaps, form.packing.bits, values, marks)
+            | choose(has_grid(pds), !ground, ground)
+            | choose(has_bitmap(pds), !gaps, gaps);
+    }
+    true
+}
+
+// All rows but 14, of the grid found and its n points. No value is looked at before N is taken.
+pub fn judge(
+    pds: &[u8],
+    form: Form,
+    scale: Scale,
+    number: u16,
+    store: &[u8],
+    values: &[u32],
+    marks: &[u8],
+    found: Found,
+    n: u32,
+) -> Refusal
+    ensures { λ r. ⌜ r ≡ first (ownRows (now (pds .entry)) form scale (record { number = number; octets = now (store .entry) }) (now (values .entry)) (now (marks .entry)) found n) ⌝ }
+{
+    let early = judge_early(
+        pds,
+        form,
+        scale,
+        number,
+        store,
+        values.len(),
+        marks,
+        found,
+        n,
+    );
+    if early.number != 0 {
+        return early;
+    }
+    refuse(
+        13,
+        lists_bad(pds, form, values, marks, n),
+        Refusal { number: 0 },
+    )
+}
