@@ -1378,7 +1378,7 @@ pub fn check_case(seed: u64, index: usize, large: bool) -> CheckCase {
             }
             17 => {
                 // Out by half a step (taken), or by more.
-                let n = source.numbers.len().min(source.marks.len());
+                let n = source.numbers.len().min(source.marks.len()).min(field.values.len());
                 let present: Vec<usize> = (0..n).filter(|&k| source.marks[k] == 1).collect();
                 if !present.is_empty() {
                     let point = rng.pick(&present);

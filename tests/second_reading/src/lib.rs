@@ -15,13 +15,16 @@
 //! * `read`    replies 1 to 12 and 14, the header, the parts of a message;
 //! * `display` R and 2^E as IEEE doubles;
 //! * `write`   the writer;
+//! * `again`   writing what was read;
 //! * `check`   the checker;
 //! * `pack`    the packer;
 //! * `list`    the listing program;
 //! * `cases`   seeded cases for the four big functions;
-//! * `antt`    the cases printed as statements of a proof language.
-//! * `vectors` messages at each edge, with the replies written by hand.
+//! * `antt`    the cases printed as statements of a proof language;
+//! * `vectors` what to read, write, check and pack at each edge, with the replies
+//!   written by hand.
 
+pub mod again;
 pub mod antt;
 pub mod bits;
 pub mod cases;

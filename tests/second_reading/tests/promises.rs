@@ -2,37 +2,12 @@
 //! nothing, writing reads back, reading and writing again gives the same octets,
 //! and what the packer writes passes the check.
 
+use second_reading::again::{cleaned, parts_of};
 use second_reading::cases::*;
 use second_reading::*;
 
 const SEEDS: [u64; 3] = [1, 2, 3];
 const COUNT: usize = 1_500;
-
-/// The parts of a message that was read.
-fn parts_from(message: &[u8], lent: &Lent) -> Parts {
-    let header = header(message, lent);
-    assert_eq!(header.reply, 0);
-    let n = header.points as usize;
-    let mut values = vec![9; n];
-    let mut marks = vec![9; n];
-    read(message, lent.number, &lent.octets, &mut values, &mut marks);
-    let pds = section(message, lent, 1);
-    let has_gds = header.places.gds.len > 0;
-    Parts {
-        pds: message[pds.start as usize..(pds.start + pds.len) as usize].to_vec(),
-        form: Form {
-            grid: has_gds.then_some(header.grid),
-            bitmap: header.bitmap,
-            flags: header.flags,
-            bits: header.bits,
-        },
-        e: header.e,
-        r: header.r,
-        lent: lent.clone(),
-        values,
-        marks,
-    }
-}
 
 fn written(parts: &Parts) -> Vec<u8> {
     let mut out = vec![0; 300_000];
@@ -77,11 +52,11 @@ fn reading() {
             assert_eq!(place as usize, case.message.len());
             // Written again, only padding, reserved octets and minus zeros may
             // differ, and a second round changes nothing.
-            let parts = parts_from(&case.message, &case.lent);
+            let parts = parts_of(&case.message, &case.lent);
             let again = written(&parts);
-            assert_eq!(again.len(), case.message.len());
-            assert_eq!(parts_from(&again, &case.lent), parts);
-            assert_eq!(written(&parts_from(&again, &case.lent)), again);
+            assert_eq!(again, cleaned(&case.message, &case.lent));
+            assert_eq!(parts_of(&again, &case.lent), parts);
+            assert_eq!(written(&parts_of(&again, &case.lent)), again);
             if again == case.message {
                 same += 1;
             }
@@ -103,7 +78,7 @@ fn writing() {
                 continue;
             }
             assert_eq!(out[length..], case.out[length..]);
-            let back = parts_from(&out[..length], &case.parts.lent);
+            let back = parts_of(&out[..length], &case.parts.lent);
             assert_eq!(back, case.parts);
         }
     }

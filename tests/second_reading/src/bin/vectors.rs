@@ -1,53 +1,118 @@
-//! `vectors DIR` makes what the program crate `read_vectors` is run on: DIR/data
-//! with a vector in each file, DIR/args with the files' names, DIR/stdout with
-//! the lines that must be written, and DIR/VECTORS.md, the list of them for
-//! docs/.
+//! `vectors DIR` makes what the program crates `read_vectors` and `write_vectors`
+//! are run on: in DIR/CRATE, data with the vectors' files, args with the files'
+//! names, and stdout with the lines that must be written. And DIR/VECTORS.md, the
+//! tables of them for docs/.
 
-use second_reading::vectors::{table, Vector};
+use second_reading::vectors::{check, pack, read, write};
+use std::fmt::Write;
+use std::path::Path;
 use std::process::ExitCode;
 
 const ABOUT: &str = include_str!("vectors.md");
 
-/// The page: what stands in vectors.md, how many vectors there are by reply, and
-/// the list.
-fn page(vectors: &[Vector]) -> String {
-    let mut text = ABOUT.to_string();
-    text.push_str("\n## How many\n\n| reply | vectors |\n|---|---|\n");
-    for reply in 0..=14 {
-        let count = vectors.iter().filter(|v| v.reply == reply).count();
+/// A line of one of the tables.
+struct Line {
+    name: String,
+    reply: u32,
+    rule: String,
+}
+
+/// A vector in a file, and the line that it must get.
+struct Made {
+    group: String,
+    file: Vec<u8>,
+    written: String,
+}
+
+/// One of the four tables as a page shows it.
+fn section(text: &mut String, title: &str, lines: &[Line]) -> std::fmt::Result {
+    write!(text, "\n## {title}\n\n| reply | vectors |\n|---|---|\n")?;
+    for reply in 0..=19 {
+        let count = lines.iter().filter(|line| line.reply == reply).count();
         if count > 0 {
-            text.push_str(&format!("| {reply} | {count} |\n"));
+            writeln!(text, "| {reply} | {count} |")?;
         }
     }
-    text.push_str(&format!("| all | {} |\n", vectors.len()));
-    text.push_str(
-        "\n## The table\n\n| vector | reply | rule, or what is special |\n|---|---|---|\n",
-    );
-    for vector in vectors {
-        text.push_str(&format!(
-            "| `{}` | {} | {} |\n",
-            vector.name, vector.reply, vector.rule
-        ));
+    writeln!(text, "| all | {} |", lines.len())?;
+    write!(
+        text,
+        "\n| vector | reply | rule, or what is special |\n|---|---|---|\n"
+    )?;
+    for line in lines {
+        writeln!(text, "| `{}` | {} | {} |", line.name, line.reply, line.rule)?;
     }
-    text
+    Ok(())
+}
+
+/// The vectors of a table, each held to what is written by hand; the field that
+/// names its file.
+macro_rules! table {
+    ($vectors:expr, $file:ident) => {{
+        let mut lines = Vec::new();
+        let mut made = Vec::new();
+        for vector in $vectors {
+            if let Some(differs) = vector.disagreement() {
+                return Err(std::io::Error::other(format!("{}: {differs}", vector.name)));
+            }
+            made.push(Made {
+                group: vector.$file.to_string(),
+                file: vector.file(),
+                written: vector.line(),
+            });
+            lines.push(Line {
+                name: vector.name,
+                reply: vector.reply,
+                rule: vector.rule,
+            });
+        }
+        (lines, made)
+    }};
+}
+
+/// Puts a crate's files in place: the vectors of one group one after another in a
+/// file, after how many they are where `counted`.
+fn place(out: &str, made: &[Made], counted: bool) -> std::io::Result<()> {
+    let data = format!("{out}/data");
+    std::fs::create_dir_all(&data)?;
+    let (mut args, mut stdout) = (String::new(), String::new());
+    for group in made.chunk_by(|a, b| a.group == b.group) {
+        let name = &group[0].group;
+        let mut file = Vec::new();
+        if counted {
+            file.extend(&(group.len() as u32).to_be_bytes()[1..]);
+        }
+        for vector in group {
+            file.extend(&vector.file);
+            stdout.push_str(&vector.written);
+        }
+        args.push_str(&format!("{name}\n"));
+        let path = format!("{data}/{name}");
+        assert!(!Path::new(&path).exists(), "{name} stands twice");
+        std::fs::write(path, file)?;
+    }
+    std::fs::write(format!("{out}/args"), args)?;
+    std::fs::write(format!("{out}/stdout"), stdout)
 }
 
 fn run(out: &str) -> std::io::Result<()> {
-    let data = format!("{out}/data");
-    std::fs::create_dir_all(&data)?;
-    let vectors = table().vectors;
-    let (mut args, mut stdout) = (String::new(), String::new());
-    for vector in &vectors {
-        if let Some(differs) = vector.disagreement() {
-            return Err(std::io::Error::other(format!("{}: {differs}", vector.name)));
-        }
-        std::fs::write(format!("{data}/{}", vector.name), vector.file())?;
-        args.push_str(&format!("{}\n", vector.name));
-        stdout.push_str(&vector.line());
+    let (reading, read) = table!(read::table().vectors, name);
+    let (writing, mut written) = table!(write::table().vectors, group);
+    let (checking, checked) = table!(check::table().vectors, group);
+    let (packing, packed) = table!(pack::table().vectors, group);
+    written.extend(checked);
+    written.extend(packed);
+    place(&format!("{out}/read_vectors"), &read, false)?;
+    place(&format!("{out}/write_vectors"), &written, true)?;
+    let mut text = ABOUT.to_string();
+    for (title, lines) in [
+        ("Reading", reading),
+        ("Writing", writing),
+        ("Checking", checking),
+        ("Packing", packing),
+    ] {
+        section(&mut text, title, &lines).map_err(std::io::Error::other)?;
     }
-    std::fs::write(format!("{out}/args"), args)?;
-    std::fs::write(format!("{out}/stdout"), stdout)?;
-    std::fs::write(format!("{out}/VECTORS.md"), page(&vectors))
+    std::fs::write(format!("{out}/VECTORS.md"), text)
 }
 
 fn main() -> ExitCode {

@@ -1,7 +1,8 @@
 //! For each misreading that document 01 names, vectors that would come out
 //! otherwise.
 
-use super::{flat, hex, plain, row, set_length, specimen, Table};
+use super::Table;
+use crate::vectors::messages::{flat, hex, plain, row, set_length, specimen};
 
 pub fn add(table: &mut Table) {
     signs(table);

@@ -1,7 +1,8 @@
 //! Rules 1 to 5: what the slice is, and the walk over the sections.
 
-use super::{
-    carried, flat, hex, listed, plain, row, set, set_length, specimen, stored, Sections, Table,
+use super::Table;
+use crate::vectors::messages::{
+    carried, flat, hex, listed, plain, row, set, set_length, specimen, stored, Sections,
 };
 
 /// The specimen's octets with some put anew, counted from 1.

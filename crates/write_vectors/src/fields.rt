@@ -1,0 +1,100 @@
+// A vector's fields, 50 octets: 1 the call; 2 whether a grid is given, 3-28 the grid; 29 the bitmap's kind, 30-31 its number; 32 flags; 33 N;
+// 34-37 E; 38-41 R; 42-45 D; 46-47 the lent bitmap's number; 48-50 how many octets are lent for the message. Of E, D, latitudes and
+// longitudes, one below 0 stands there as 2^31 and how far it is below -1.
+use octets::four;
+use octets::octet;
+use octets::two;
+use rules::Bitmap;
+use rules::Form;
+use rules::Found;
+use rules::Grid;
+use rules::Packing;
+use rules::Scale;
+use rules::Signed;
+
+pub(crate) const FIELDS: usize = 50;
+
+// A number with its sign.
+pub(crate) fn lowered(x: u32) -> i32 {
+    if x < 2147483648 {
+        return x as i32;
+    }
+    !((x - 2147483648) as i32)
+}
+
+fn signed(fields: &[u8], k: u8) -> Signed {
+    Signed {
+        value: lowered(four(fields, 0, k)),
+    }
+}
+
+pub(crate) fn call(fields: &[u8]) -> u8 {
+    octet(fields, 0, 1)
+}
+
+fn grid(fields: &[u8]) -> Grid {
+    Grid {
+        ni: two(fields, 0, 3),
+        nj: two(fields, 0, 5),
+        la1: signed(fields, 7),
+        lo1: signed(fields, 11),
+        flags: octet(fields, 0, 15),
+        la2: signed(fields, 16),
+        lo2: signed(fields, 20),
+        di: two(fields, 0, 24),
+        dj: two(fields, 0, 26),
+        scan: octet(fields, 0, 28),
+    }
+}
+
+fn found(fields: &[u8]) -> Found {
+    if octet(fields, 0, 2) == 0 {
+        return Found::Nothing;
+    }
+    Found::Given(grid(fields))
+}
+
+fn bitmap(fields: &[u8]) -> Bitmap {
+    let kind = octet(fields, 0, 29);
+    if kind == 0 {
+        return Bitmap::Without;
+    }
+    if kind == 1 {
+        return Bitmap::Carried;
+    }
+    Bitmap::Stored(two(fields, 0, 30))
+}
+
+fn packing(fields: &[u8]) -> Packing {
+    Packing {
+        flags: octet(fields, 0, 32),
+        bits: octet(fields, 0, 33),
+    }
+}
+
+pub(crate) fn form(fields: &[u8]) -> Form {
+    Form {
+        grid: found(fields),
+        bitmap: bitmap(fields),
+        packing: packing(fields),
+    }
+}
+
+pub(crate) fn scale(fields: &[u8]) -> Scale {
+    Scale {
+        e: signed(fields, 34),
+        r: four(fields, 0, 38),
+    }
+}
+
+pub(crate) fn decimal(fields: &[u8]) -> i32 {
+    lowered(four(fields, 0, 42))
+}
+
+pub(crate) fn number(fields: &[u8]) -> u16 {
+    two(fields, 0, 46)
+}
+
+pub(crate) fn room(fields: &[u8]) -> usize {
+    octets::three(fields, 0, 48) as usize
+}
