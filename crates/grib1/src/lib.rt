@@ -1,0 +1,178 @@
+// The codec for C: each function is one call below, with its answer as a record of plain numbers. All total: no number that C can pass is without a
+// meaning, and all buffers are lent by the caller. include/grib1.h declares the records and functions for C.
+ghost use mathlib.Core.Path.{_≡_};
+ghost use Rattle.rules.specs.Chart.{charted, pointed};
+ghost use Rattle.rules.specs.Reading.{headerOf, readOf, valuesAfter, marksAfter, sectionOf, bitmapOf, numberingOf};
+ghost use Rattle.rules.specs.Display.{displayOf};
+ghost use Rattle.rules.specs.Writing.{writeOf, outputAfter};
+ghost use Rattle.rules.specs.Checking.{checkOf};
+ghost use Rattle.rules.specs.Packing.{packOf, packedAfter};
+ghost use Rattle.sections.specs.Given.{parts as theParts};
+ghost use Rattle.grib1.specs.Forms.{formBy};
+ghost use Rattle.grib1.specs.Records.{partRecord, forceRecord, headerRecord, placeRecord, pointRecord, dataRecord, displayRecord, writtenRecord, checkRecord};
+
+mod forms; // forms.rt: the record that comes in
+mod records; // records.rt: the records that go out, and how each is made
+
+pub use forms::FormRecord;
+use forms::form_by;
+pub use records::CheckRecord;
+pub use records::DataRecord;
+pub use records::DisplayRecord;
+pub use records::GridRecord;
+pub use records::HeaderRecord;
+pub use records::PartRecord;
+pub use records::PlaceRecord;
+pub use records::PointRecord;
+pub use records::WrittenRecord;
+use records::check_record;
+use records::data_record;
+use records::display_record;
+use records::force_record;
+use records::header_record;
+use records::part_record;
+use records::place_record;
+use records::point_record;
+use records::written_record;
+use rules::GridPoint;
+use rules::Scale;
+use rules::Signed;
+use rules::Spot;
+
+// The header of a message, with the stored bitmap of a number lent.
+#[no_mangle]
+pub extern "C" fn grib1_header(message: &[u8], number: u16, store: &[u8]) -> HeaderRecord
+    ensures { λ r. ⌜ r ≡ headerRecord (headerOf (now (message .entry)) (record { number = number; octets = now (store .entry) })) ⌝ }
+{
+    header_record(message::header(message, number, store))
+}
+
+// The header, with the values and marks of all points put at the front of the lent lists.
+#[no_mangle]
+pub extern "C" fn grib1_read(
+    message: &[u8],
+    number: u16,
+    store: &[u8],
+    values: &mut [u32],
+    marks: &mut [u8],
+) -> HeaderRecord
+    ensures { λ r. ⌜ r ≡ headerRecord (readOf (now (message .entry)) (record { number = number; octets = now (store .entry) }) (now (values .entry)) (now (marks .entry))) ⌝ }
+    ensures { λ _. ⌜ now (values .exit) ≡ valuesAfter (now (message .entry)) (record { number = number; octets = now (store .entry) }) (now (values .entry)) (now (marks .entry)) ⌝ }
+    ensures { λ _. ⌜ now (marks .exit) ≡ marksAfter (now (message .entry)) (record { number = number; octets = now (store .entry) }) (now (values .entry)) (now (marks .entry)) ⌝ }
+{
+    header_record(field::read(message, number, store, values, marks))
+}
+
+// Which part of the message its section 0 to 5 is.
+#[no_mangle]
+pub extern "C" fn grib1_section(
+    message: &[u8],
+    number: u16,
+    store: &[u8],
+    section: u32,
+) -> PartRecord
+    ensures { λ r. ⌜ r ≡ partRecord (sectionOf (now (message .entry)) (record { number = number; octets = now (store .entry) }) section) ⌝ }
+{
+    part_record(parts::section_part(message, number, store, section))
+}
+
+// Which part of the message or of the lent bitmap the bitmap in force is.
+#[no_mangle]
+pub extern "C" fn grib1_bitmap(message: &[u8], number: u16, store: &[u8]) -> PartRecord
+    ensures { λ r. ⌜ r ≡ forceRecord (bitmapOf (now (message .entry)) (record { number = number; octets = now (store .entry) })) ⌝ }
+{
+    force_record(parts::force_part(message, number, store))
+}
+
+// R and 2^E as doubles.
+#[no_mangle]
+pub extern "C" fn grib1_display(message: &[u8], number: u16, store: &[u8]) -> DisplayRecord
+    ensures { λ r. ⌜ r ≡ displayRecord (displayOf (now (message .entry)) (record { number = number; octets = now (store .entry) })) ⌝ }
+{
+    display_record(display::display(message, number, store))
+}
+
+// Where a grid point lies on the chart.
+#[no_mangle]
+pub extern "C" fn grib1_place(ni: u16, nj: u16, scan: u8, point: u32) -> PlaceRecord
+    ensures { λ r. ⌜ r ≡ placeRecord (charted ni nj scan (record { 0 = point })) ⌝ }
+{
+    place_record(chart::spot_of(ni, nj, scan, GridPoint(point)))
+}
+
+// The grid point that lies at a place of the chart.
+#[no_mangle]
+pub extern "C" fn grib1_point(ni: u16, nj: u16, scan: u8, row: u32, column: u32) -> PointRecord
+    ensures { λ r. ⌜ r ≡ pointRecord (pointed ni nj scan (record { row = row; column = column })) ⌝ }
+{
+    point_record(chart::point_at(ni, nj, scan, Spot { row, column }))
+}
+
+// The data number of a grid point of a message.
+#[no_mangle]
+pub extern "C" fn grib1_data_number(
+    message: &[u8],
+    number: u16,
+    store: &[u8],
+    point: u32,
+) -> DataRecord
+    ensures { λ r. ⌜ r ≡ dataRecord (numberingOf (now (message .entry)) (record { number = number; octets = now (store .entry) }) point) ⌝ }
+{
+    data_record(points::data_number(message, number, store, GridPoint(point)))
+}
+
+// Writes the message of a PDS, a form, E and R, and lists of values and marks.
+#[no_mangle]
+pub extern "C" fn grib1_write(
+    pds: &[u8],
+    form: FormRecord,
+    e: i32,
+    r: u32,
+    number: u16,
+    store: &[u8],
+    values: &[u32],
+    marks: &[u8],
+    out: &mut [u8],
+) -> WrittenRecord
+    ensures { λ w. ⌜ w ≡ writtenRecord (writeOf (theParts (now (pds .entry)) (formBy form) (record { e = record { value = e }; r = r }) number (now (store .entry)) (now (values .entry)) (now (marks .entry))) (now (out .entry))) ⌝ }
+    ensures { λ _. ⌜ now (out .exit) ≡ outputAfter (theParts (now (pds .entry)) (formBy form) (record { e = record { value = e }; r = r }) number (now (store .entry)) (now (values .entry)) (now (marks .entry))) (now (out .entry)) ⌝ }
+{
+    let scale = Scale {
+        e: Signed { value: e },
+        r,
+    };
+    written_record(writer::write(pds, form_by(form), scale, number, store, values, marks, out))
+}
+
+// Judges a message against its source field.
+#[no_mangle]
+pub extern "C" fn grib1_check(
+    message: &[u8],
+    number: u16,
+    store: &[u8],
+    numbers: &[i32],
+    marks: &[u8],
+    d: i32,
+) -> CheckRecord
+    ensures { λ r. ⌜ r ≡ checkRecord (checkOf (now (message .entry)) (record { number = number; octets = now (store .entry) }) (record { numbers = now (numbers .entry); marks = now (marks .entry); d = d })) ⌝ }
+{
+    check_record(checker::check(message, number, store, numbers, marks, d))
+}
+
+// Packs a source field into a message of a PDS and a form.
+#[no_mangle]
+pub extern "C" fn grib1_pack(
+    pds: &[u8],
+    form: FormRecord,
+    number: u16,
+    store: &[u8],
+    numbers: &[i32],
+    marks: &[u8],
+    d: i32,
+    out: &mut [u8],
+) -> WrittenRecord
+    ensures { λ r. ⌜ r ≡ writtenRecord (packOf (now (pds .entry)) (formBy form) (record { number = number; octets = now (store .entry) }) (record { numbers = now (numbers .entry); marks = now (marks .entry); d = d }) (now (out .entry))) ⌝ }
+    ensures { λ _. ⌜ now (out .exit) ≡ packedAfter (now (pds .entry)) (formBy form) (record { number = number; octets = now (store .entry) }) (record { numbers = now (numbers .entry); marks = now (marks .entry); d = d }) (now (out .entry)) ⌝ }
+{
+    written_record(packer::pack(pds, form_by(form), number, store, numbers, marks, d, out))
+}

@@ -1,0 +1,66 @@
+/* A receiver's main path: a message in, its chart out, row by row from north, as values of the field.
+ *
+ *   receiver FILE
+ */
+#include <stdio.h>
+
+#include "grib1.h"
+
+enum { OCTETS = 262144, POINTS = 65536 };
+
+/* Lent to the codec: it has no memory of its own. One octet more than a message may have, so that a longer file is seen to be longer. */
+static uint8_t message[OCTETS + 1];
+static uint32_t values[POINTS];
+static uint8_t marks[POINTS];
+
+/* No stored bitmap: number 0, no octets, and a pointer that is not NULL. */
+static const uint8_t none[1];
+
+/* 10^d for d of 0 or more */
+static double ten(int32_t d)
+{
+    double power = 1;
+    while (d-- > 0)
+        power *= 10;
+    return power;
+}
+
+static int draw(size_t len)
+{
+    Grib1Header h = grib1_read(message, len, 0, none, 0, values, POINTS, marks, POINTS);
+    Grib1Display shown = grib1_display(message, len, 0, none, 0);
+    uint32_t reply = h.reply != GRIB1_ACCEPTED ? h.reply : shown.reply;
+    uint32_t row, column;
+
+    if (reply != GRIB1_ACCEPTED) {
+        printf("refused %u\n", (unsigned)reply);
+        return 1;
+    }
+    printf("%04u-%02u-%02u %02u:%02u, %u by %u, %u of %u points present\n", (unsigned)h.year, (unsigned)h.month, (unsigned)h.day, (unsigned)h.hour,
+        (unsigned)h.minute, (unsigned)h.grid.ni, (unsigned)h.grid.nj, (unsigned)h.present, (unsigned)h.points);
+    for (row = 0; row < h.grid.nj; row++) {
+        for (column = 0; column < h.grid.ni; column++) {
+            Grib1Point at = grib1_point(h.grid.ni, h.grid.nj, h.grid.scan, row, column);
+            if (marks[at.point])
+                printf(" %9.3f", (shown.reference + values[at.point] * shown.step) * ten(-h.d) / ten(h.d));
+            else
+                printf(" %9s", "-");
+        }
+        printf("\n");
+    }
+    return 0;
+}
+
+int main(int count, char **words)
+{
+    FILE *file = count == 2 ? fopen(words[1], "rb") : NULL;
+    size_t len;
+
+    if (file == NULL) {
+        printf("receiver: name a file to read\n");
+        return 2;
+    }
+    len = fread(message, 1, sizeof message, file);
+    fclose(file);
+    return draw(len);
+}

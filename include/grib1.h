@@ -1,0 +1,221 @@
+/* grib1: a proved GRIB Edition 1 codec. Link libgrib1.a, which tools/archive builds (x86-64 Linux); it needs no library but C's.
+ *
+ * Every function takes any octets and numbers, answers by value, and returns. What each answer is stands in
+ * crates/grib1/src/lib.rt, as an equation that is proved. The caller owes only this:
+ *   - a pointer and its length, in elements, are memory that the caller lends for the call; no pointer is NULL, also where its
+ *     length is 0;
+ *   - a buffer that is written (values and marks of grib1_read, out) overlaps no other buffer of the call.
+ * A buffer that is not written is only read. A reply other than 0 changes no buffer and comes with every other field 0.
+ * Padding between fields has no set content.
+ *
+ * Thread-safe: no globals, no heap, nothing is kept between calls. Stack: under 2 KiB in every function (measured).
+ *
+ * message        one GRIB message, whole: 'GRIB' to '7777'
+ * number, store  the stored bitmap that is lent with the message: its number and its octets; none: 0, and any pointer with length 0
+ *
+ * Octets of a part, sections and grid points are counted from 0 here. */
+#ifndef GRIB1_H
+#define GRIB1_H
+
+#include <stddef.h>
+#include <stdint.h>
+
+#ifdef __cplusplus
+extern "C" {
+#endif
+
+/* What a reply says. The first that applies is given, in number order; grib1_check gives 1 to 12, then 18, 15, 16,
+ * 17, and grib1_pack gives 5, 18, 15, 11, 19, then the rest of grib1_write's. */
+enum grib1_reply {
+    GRIB1_ACCEPTED = 0,
+    GRIB1_SIZE = 1,            /* slice below 8 or above 262,144 octets */
+    GRIB1_NOT_GRIB = 2,        /* first four octets not 'GRIB' */
+    GRIB1_EDITION = 3,         /* edition not 1 */
+    GRIB1_TOTAL = 4,           /* total length is not the slice's, or last four octets not '7777' */
+    GRIB1_LENGTHS = 5,         /* a section length is odd or under its least (PDS 28, GDS 32, BMS 6, BDS 12), PDS over
+                                  1,024, a length's octets or its section passes the end section's start, or the
+                                  sections don't reach it exactly; writing: the PDS alone */
+    GRIB1_TIME = 6,            /* time out of its ranges */
+    GRIB1_NO_GRID = 7,         /* no GDS, octet 7 not in the catalogue */
+    GRIB1_GDS = 8,             /* GDS length or octets 4 to 6 not as the rules say */
+    GRIB1_GRID = 9,            /* Ni, Nj, n, a latitude, a longitude or the scan test outside the rules */
+    GRIB1_BITMAP = 10,         /* bitmap rule broken, or no such stored bitmap, or (writing, lists n long) one of its
+                                  first n bits isn't the same number as the mark */
+    GRIB1_PACKING = 11,        /* BDS flag bit 1, 2 or 4 set, N over 24, or (writing) E outside -32,767 to 32,767 */
+    GRIB1_DATA_LENGTH = 12,    /* data length rule broken */
+    GRIB1_LISTS = 13,          /* writing: lists not n long, a mark not 0 or 1, an absent point without a bitmap or
+                                  with value not 0, a value of 2^N or more, PDS octet 8 not matching the parts given */
+    GRIB1_ROOM = 14,           /* lent output too short */
+    GRIB1_DIFFERS = 15,        /* point count, marks or D of message and source differ */
+    GRIB1_SCALE = 16,          /* checker: E outside 0 to 24, or R not whole or over 8,388,607 in magnitude; display:
+                                  E outside -1,022 to 1,023 */
+    GRIB1_OUT = 17,            /* a present point is out by more than half a step */
+    GRIB1_SOURCE = 18,         /* source lists unequal, 0 or over 65,536 long, a mark not 0 or 1, a present number
+                                  outside its bound */
+    GRIB1_NO_STEP = 19         /* packer: no E from 0 to 24 fits */
+};
+
+/* Which points are present. */
+enum grib1_bitmap_kind {
+    GRIB1_WITHOUT = 0,         /* all are */
+    GRIB1_CARRIED = 1,         /* by bits in the message */
+    GRIB1_STORED = 2           /* by the stored bitmap of a number */
+};
+
+/* What is said of a grid point. */
+enum grib1_data_kind {
+    GRIB1_OUTSIDE = 0,         /* the grid has no such point, or the message is refused */
+    GRIB1_PRESENT = 1,
+    GRIB1_ABSENT = 2
+};
+
+/* A part of a lent buffer. */
+typedef struct {
+    uint32_t stored;           /* 0: a part of the message; 1: of store */
+    uint32_t start;            /* place of its first octet */
+    uint32_t len;              /* how many octets it has; 0 and start 0 where there is none */
+} Grib1Part;
+
+/* A latitude/longitude grid. Latitudes and longitudes are in thousandths of a degree, north and east positive. */
+typedef struct {
+    int32_t la1;               /* latitude of the first grid point */
+    int32_t lo1;               /* longitude of the first grid point */
+    int32_t la2;               /* latitude of the last grid point */
+    int32_t lo2;               /* longitude of the last grid point */
+    uint16_t ni;               /* points along a row: the chart's columns */
+    uint16_t nj;               /* points along a column: the chart's rows */
+    uint16_t di;               /* step along a row, 65,535 where it is missing */
+    uint16_t dj;               /* step along a column, 65,535 where it is missing */
+    uint8_t flags;             /* resolution flags, GDS octet 17 as carried */
+    uint8_t scan;              /* scanning flags, GDS octet 28 as carried: 128 columns run west, 64 rows run north, 32
+                                  by columns */
+} Grib1Grid;
+
+/* What a message says, but for its lists. A value X at a point stands for Y with Y x 10^D = R + X x 2^E. */
+typedef struct {
+    uint32_t reply;            /* enum grib1_reply: 0, 1 to 12, and 14 of grib1_read */
+    uint32_t points;           /* n, the grid's points: ni x nj, at most 65,536 */
+    uint32_t present;          /* how many of them are present */
+    int32_t d;                 /* D, the decimal scale */
+    int32_t e;                 /* E, the binary scale */
+    uint32_t r;                /* R, its four octets as carried, high octet first (grib1_display has its value) */
+    uint32_t bitmap;           /* enum grib1_bitmap_kind */
+    Grib1Grid grid;            /* the GDS's grid, or the catalogue's where there is none (gds.len is 0) */
+    Grib1Part pds;             /* where the Product Definition Section lies in the message */
+    Grib1Part gds;             /* the Grid Description Section; len 0 where it is absent */
+    Grib1Part bms;             /* the Bit Map Section; len 0 where it is absent */
+    Grib1Part bds;             /* the Binary Data Section */
+    uint16_t number;           /* the bitmap's number where it is a stored one, else 0 */
+    uint16_t year;             /* reference time: the whole year */
+    uint8_t month;             /* 1 to 12 */
+    uint8_t day;               /* 1 to 31 */
+    uint8_t hour;              /* 0 to 23 */
+    uint8_t minute;            /* 0 to 59 */
+    uint8_t flags;             /* the four flag bits of BDS octet 4: 0, or 2 where bit 3 is set */
+    uint8_t bits;              /* N, bits per value, 0 to 24 */
+} Grib1Header;
+
+/* R and 2^E, exactly. */
+typedef struct {
+    uint32_t reply;            /* enum grib1_reply: 0, 1 to 12, 16 */
+    double reference;          /* R */
+    double step;               /* 2^E */
+} Grib1Display;
+
+/* A place of the chart. */
+typedef struct {
+    uint32_t on;               /* 1; 0 where the grid has no such point */
+    uint32_t row;              /* row 0 is north */
+    uint32_t column;           /* column 0 is west */
+} Grib1Place;
+
+/* A grid point. */
+typedef struct {
+    uint32_t on;               /* 1; 0 where the chart has no such place */
+    uint32_t point;            /* its number in message order, from 0: the index into values and marks */
+} Grib1Point;
+
+/* A grid point's data number. */
+typedef struct {
+    uint32_t kind;             /* enum grib1_data_kind */
+    uint32_t number;           /* where it is present: how many present points stand before it */
+} Grib1Data;
+
+/* What writing answers. */
+typedef struct {
+    uint32_t reply;            /* enum grib1_reply: 0, 5 to 7, 9 to 11, 13, 14, and 15, 18, 19 of grib1_pack */
+    uint32_t len;              /* octets of the message */
+} Grib1Written;
+
+/* What checking answers. */
+typedef struct {
+    uint32_t reply;            /* enum grib1_reply: 0 where the message renders the source, else 1 to 12, 15 to 18 */
+} Grib1Checked;
+
+/* What the caller of grib1_write and grib1_pack chooses. Every number means something: a kind with no name is refused
+ * where its part is judged. */
+typedef struct {
+    uint32_t given;            /* 0: no GDS, PDS octet 7 picks the grid; 1: grid is written as the GDS; any other
+                                  number is refused by 9 */
+    uint32_t bitmap;           /* enum grib1_bitmap_kind; any other number is refused by 10 */
+    Grib1Grid grid;            /* read only where given is 1 */
+    uint16_t number;           /* the stored bitmap's number, read only where bitmap is GRIB1_STORED */
+    uint8_t flags;             /* the four flag bits of BDS octet 4: 0 or 2 */
+    uint8_t bits;              /* N, 0 to 24 */
+} Grib1Form;
+
+/* The header of a message. Reads message and store. */
+Grib1Header grib1_header(const uint8_t *message, size_t message_len, uint16_t number, const uint8_t *store,
+    size_t store_len);
+
+/* The header, and all points: values[i] is X of grid point i and marks[i] is 1 where it is present, 0 and 0 where it
+ * is absent. Reads message and store; writes the first n of values and of marks and leaves later ones. 14 where
+ * either has fewer than n. */
+Grib1Header grib1_read(const uint8_t *message, size_t message_len, uint16_t number, const uint8_t *store,
+    size_t store_len, uint32_t *values, size_t values_len, uint8_t *marks, size_t marks_len);
+
+/* Where section 0 to 5 lies: indicator, PDS, GDS, BMS, BDS, end. The empty part at the message's start for another
+ * number, an absent section or a refused message. Reads message and store. */
+Grib1Part grib1_section(const uint8_t *message, size_t message_len, uint16_t number, const uint8_t *store,
+    size_t store_len, uint32_t section);
+
+/* Where the bitmap in force lies: just the octets that hold its n bits, first point leftmost, 1 for present; bits
+ * after the nth may be ones. The empty part at the message's start where there is none or the message is refused.
+ * Reads message and store. */
+Grib1Part grib1_bitmap(const uint8_t *message, size_t message_len, uint16_t number, const uint8_t *store,
+    size_t store_len);
+
+/* R and 2^E as doubles. Reads message and store. */
+Grib1Display grib1_display(const uint8_t *message, size_t message_len, uint16_t number, const uint8_t *store,
+    size_t store_len);
+
+/* Where a grid point lies on the chart of a grid (ni, nj and scan of a Grib1Grid), and which point lies at a place. */
+Grib1Place grib1_place(uint16_t ni, uint16_t nj, uint8_t scan, uint32_t point);
+Grib1Point grib1_point(uint16_t ni, uint16_t nj, uint8_t scan, uint32_t row, uint32_t column);
+
+/* The data number of a grid point of a message. Reads message and store; takes a whole header's time. */
+Grib1Data grib1_data_number(const uint8_t *message, size_t message_len, uint16_t number, const uint8_t *store,
+    size_t store_len, uint32_t point);
+
+/* Writes the message of a PDS, a form, E and R's four octets, and n values and n marks. Reads pds, store, values and
+ * marks; fills the message's octets of out and leaves later ones. 205,886 octets of out hold any message. */
+Grib1Written grib1_write(const uint8_t *pds, size_t pds_len, Grib1Form form, int32_t e, uint32_t r, uint16_t number,
+    const uint8_t *store, size_t store_len, const uint32_t *values, size_t values_len, const uint8_t *marks,
+    size_t marks_len, uint8_t *out, size_t out_len);
+
+/* Whether a message renders a source field, whole numbers V for Y x 10^D with marks: every present point within half
+ * a step. Reads all its buffers. */
+Grib1Checked grib1_check(const uint8_t *message, size_t message_len, uint16_t number, const uint8_t *store,
+    size_t store_len, const int32_t *numbers, size_t numbers_len, const uint8_t *marks, size_t marks_len, int32_t d);
+
+/* Packs a source field with the least R and the least E for which N bits do, and writes its message. Buffers as
+ * grib1_write; numbers of absent points are ignored. */
+Grib1Written grib1_pack(const uint8_t *pds, size_t pds_len, Grib1Form form, uint16_t number, const uint8_t *store,
+    size_t store_len, const int32_t *numbers, size_t numbers_len, const uint8_t *marks, size_t marks_len, int32_t d,
+    uint8_t *out, size_t out_len);
+
+#ifdef __cplusplus
+}
+#endif
+
+#endif

@@ -1,0 +1,353 @@
+//! A proved GRIB Edition 1 codec: a safe face of `libgrib1.a`. Nothing is copied or allocated here: lists and octets are lent by the caller,
+//! and parts are borrowed from them. Every octet string gets the one reply that the rules fix, and a refusal changes nothing that is lent.
+//!
+//! ```
+//! # let octets: &[u8] = &[
+//! #     0x47, 0x52, 0x49, 0x42, 0x00, 0x00, 0x5E, 0x01, 0x00, 0x00, 0x1C, 0x03, 0x07, 0x00, 0xFF, 0xC0,
+//! #     0x0B, 0x64, 0x01, 0xF4, 0x62, 0x03, 0x0A, 0x06, 0x00, 0x01, 0x00, 0x00, 0x00, 0x00, 0x00, 0x00,
+//! #     0x14, 0x00, 0x00, 0x01, 0x00, 0x00, 0x20, 0x00, 0xFF, 0x00, 0x00, 0x02, 0x00, 0x02, 0x00, 0xC3,
+//! #     0x50, 0x80, 0x07, 0xD0, 0x80, 0x00, 0xC7, 0x38, 0x80, 0x03, 0xE8, 0x03, 0xE8, 0x03, 0xE8, 0x40,
+//! #     0x00, 0x00, 0x00, 0x00, 0x00, 0x00, 0x08, 0x0C, 0x00, 0x00, 0xD0, 0x00, 0x00, 0x00, 0x0E, 0x0F,
+//! #     0x00, 0x00, 0x43, 0x9C, 0x40, 0x00, 0x03, 0x0B, 0x80, 0x00, 0x37, 0x37, 0x37, 0x37,
+//! # ];
+//! let message = grib1::Message::new(octets, grib1::Stored::NONE)?;
+//! let n = message.header().points as usize;
+//! let (mut values, mut marks) = (vec![0; n], vec![0; n]);
+//! let field = message.read(&mut values, &mut marks)?;
+//! let chart: Vec<Vec<Option<u32>>> = field.rows().map(|row| row.collect()).collect();
+//! assert_eq!(chart, [[None, Some(7)], [Some(0), Some(2)]]);
+//! # Ok::<(), grib1::Refusal>(())
+//! ```
+
+mod records;
+mod refusal;
+mod rows;
+
+#[cfg(feature = "driver")]
+mod driver;
+#[cfg(feature = "driver")]
+use driver as face;
+
+#[cfg(all(not(feature = "driver"), target_arch = "x86_64"))]
+mod linked;
+#[cfg(all(not(feature = "driver"), target_arch = "x86_64"))]
+use linked as face;
+
+#[cfg(all(not(feature = "driver"), not(target_arch = "x86_64")))]
+compile_error!("libgrib1.a is x86-64 code: no program of this processor can link it");
+
+pub use refusal::Refusal;
+pub use rows::{Row, Rows};
+
+/// A stored bitmap that is lent with a message: its number and its octets.
+#[derive(Clone, Copy, Debug)]
+pub struct Stored<'a> {
+    pub number: u16,
+    pub octets: &'a [u8],
+}
+
+impl Stored<'static> {
+    /// None is lent.
+    pub const NONE: Stored<'static> = Stored { number: 0, octets: &[] };
+}
+
+/// Which points are present: all, by bits in the message, by the stored bitmap of a number.
+#[derive(Clone, Copy, Debug, PartialEq, Eq)]
+pub enum Bitmap {
+    Without,
+    Carried,
+    Stored(u16),
+}
+
+/// The sections of a message, by number.
+#[derive(Clone, Copy, Debug, PartialEq, Eq)]
+pub enum Section {
+    Indicator = 0,
+    Pds = 1,
+    Gds = 2,
+    Bms = 3,
+    Bds = 4,
+    End = 5,
+}
+
+/// A latitude/longitude grid; corners in thousandths of a degree, north and east positive; steps of 65,535 are missing.
+#[derive(Clone, Copy, Debug, PartialEq, Eq)]
+pub struct Grid {
+    pub ni: u16,
+    pub nj: u16,
+    pub la1: i32,
+    pub lo1: i32,
+    pub flags: u8,
+    pub la2: i32,
+    pub lo2: i32,
+    pub di: u16,
+    pub dj: u16,
+    pub scan: u8,
+}
+
+/// A place of the chart: row 0 is north, column 0 is west.
+#[derive(Clone, Copy, Debug, PartialEq, Eq)]
+pub struct Place {
+    pub row: u32,
+    pub column: u32,
+}
+
+impl Grid {
+    /// Where a grid point lies on the chart; None where the grid has no such point.
+    pub fn place(&self, point: u32) -> Option<Place> {
+        let p = face::place(self.ni, self.nj, self.scan, point);
+        (p.on == 1).then_some(Place { row: p.row, column: p.column })
+    }
+
+    /// The grid point that lies at a place; None where the chart has no such place.
+    pub fn point(&self, place: Place) -> Option<u32> {
+        let p = face::point(self.ni, self.nj, self.scan, place.row, place.column);
+        (p.on == 1).then_some(p.point)
+    }
+}
+
+/// The reference time of a field.
+#[derive(Clone, Copy, Debug, PartialEq, Eq)]
+pub struct Moment {
+    pub year: u16,
+    pub month: u8,
+    pub day: u8,
+    pub hour: u8,
+    pub minute: u8,
+}
+
+/// What a message says, but for its lists. X at a point stands for Y with Y × 10^D = R + X × 2^E; `r` is R's four octets.
+#[derive(Clone, Copy, Debug, PartialEq, Eq)]
+pub struct Header {
+    pub points: u32,
+    pub present: u32,
+    pub grid: Grid,
+    pub bitmap: Bitmap,
+    pub time: Moment,
+    pub d: i32,
+    pub e: i32,
+    pub r: u32,
+    pub flags: u8,
+    pub bits: u8,
+}
+
+/// R and 2^E, exactly.
+#[derive(Clone, Copy, Debug, PartialEq)]
+pub struct Display {
+    pub reference: f64,
+    pub step: f64,
+}
+
+/// What is said of a grid point: present, with its data number; absent; or no point of the grid.
+#[derive(Clone, Copy, Debug, PartialEq, Eq)]
+pub enum Data {
+    Present(u32),
+    Absent,
+    Outside,
+}
+
+/// A source field: whole numbers V that stand for Y × 10^D, with a mark of 1 or 0 each.
+#[derive(Clone, Copy, Debug)]
+pub struct Source<'a> {
+    pub numbers: &'a [i32],
+    pub marks: &'a [u8],
+    pub d: i32,
+}
+
+/// What the writer and the packer are to choose: a grid where a GDS is wanted, the bitmap, BDS flags and N.
+#[derive(Clone, Copy, Debug, PartialEq, Eq)]
+pub struct Form {
+    pub grid: Option<Grid>,
+    pub bitmap: Bitmap,
+    pub flags: u8,
+    pub bits: u8,
+}
+
+/// What the writer is given.
+#[derive(Clone, Copy, Debug)]
+pub struct Parts<'a> {
+    pub pds: &'a [u8],
+    pub form: Form,
+    pub e: i32,
+    pub r: u32,
+    pub stored: Stored<'a>,
+    pub values: &'a [u32],
+    pub marks: &'a [u8],
+}
+
+/// A message that is taken, with the stored bitmap lent to it.
+#[derive(Clone, Copy, Debug)]
+pub struct Message<'a> {
+    octets: &'a [u8],
+    stored: Stored<'a>,
+    header: Header,
+    gds: bool,
+}
+
+impl<'a> Message<'a> {
+    /// Takes a message, whole, or says why it is refused: replies 1 to 12.
+    pub fn new(octets: &'a [u8], stored: Stored<'a>) -> Result<Message<'a>, Refusal> {
+        let h = face::header(octets, stored.number, stored.octets);
+        Refusal::unless_accepted(h.reply)?;
+        Ok(Message { octets, stored, header: header_of(&h), gds: h.gds.len > 0 })
+    }
+
+    pub fn header(&self) -> &Header {
+        &self.header
+    }
+
+    /// The octets of a section; None where it is absent.
+    pub fn section(&self, section: Section) -> Option<&'a [u8]> {
+        self.part(face::section(self.octets, self.stored.number, self.stored.octets, section as u32))
+    }
+
+    /// The octets that hold the n bits of the bitmap in force, of the message or of the stored one; None where all points are present.
+    pub fn bitmap(&self) -> Option<&'a [u8]> {
+        self.part(face::bitmap(self.octets, self.stored.number, self.stored.octets))
+    }
+
+    fn part(&self, p: records::Part) -> Option<&'a [u8]> {
+        let whole = if p.stored == 1 { self.stored.octets } else { self.octets };
+        let start = p.start as usize;
+        (p.len > 0).then(|| &whole[start..start + p.len as usize])
+    }
+
+    /// R and 2^E as doubles, or reply 16.
+    pub fn display(&self) -> Result<Display, Refusal> {
+        let d = face::display(self.octets, self.stored.number, self.stored.octets);
+        Refusal::unless_accepted(d.reply)?;
+        Ok(Display { reference: d.reference, step: d.step })
+    }
+
+    /// The data number of a grid point. Takes a header's time.
+    pub fn data_number(&self, point: u32) -> Data {
+        let d = face::data_number(self.octets, self.stored.number, self.stored.octets, point);
+        match d.kind {
+            1 => Data::Present(d.number),
+            2 => Data::Absent,
+            _ => Data::Outside,
+        }
+    }
+
+    /// Puts n values and n marks at the front of the lent lists; reply 14 where one is shorter.
+    pub fn read<'b>(&self, values: &'b mut [u32], marks: &'b mut [u8]) -> Result<Field<'b>, Refusal> {
+        let h = face::read(self.octets, self.stored.number, self.stored.octets, values, marks);
+        Refusal::unless_accepted(h.reply)?;
+        let n = h.points as usize;
+        Ok(Field { header: self.header, values: &values[..n], marks: &marks[..n] })
+    }
+
+    /// Whether the message renders a source field, every present point within half a step: else replies 15 to 18.
+    pub fn check(&self, source: &Source) -> Result<(), Refusal> {
+        let c = face::check(self.octets, self.stored.number, self.stored.octets, source.numbers, source.marks, source.d);
+        Refusal::unless_accepted(c.reply)
+    }
+
+    /// The form by which the writer makes this message again.
+    pub fn form(&self) -> Form {
+        let h = self.header;
+        Form { grid: self.gds.then_some(h.grid), bitmap: h.bitmap, flags: h.flags, bits: h.bits }
+    }
+}
+
+/// A field that was read: a value and a mark for each grid point.
+#[derive(Clone, Copy, Debug)]
+pub struct Field<'b> {
+    header: Header,
+    values: &'b [u32],
+    marks: &'b [u8],
+}
+
+impl<'b> Field<'b> {
+    pub fn header(&self) -> &Header {
+        &self.header
+    }
+
+    /// X of each grid point in message order, 0 where it is absent.
+    pub fn values(&self) -> &'b [u32] {
+        self.values
+    }
+
+    /// 1 for each present grid point, 0 for an absent one.
+    pub fn marks(&self) -> &'b [u8] {
+        self.marks
+    }
+
+    /// The chart's rows from north, each from west: X, or None where the point is absent.
+    pub fn rows(&self) -> Rows<'b> {
+        Rows::new(&self.header.grid, self.values, self.marks)
+    }
+}
+
+/// Writes the message of the parts given to the front of `out`, and hands out its octets.
+pub fn write<'o>(parts: &Parts, out: &'o mut [u8]) -> Result<&'o [u8], Refusal> {
+    let p = parts;
+    let w = face::write(p.pds, form_record(&p.form), p.e, p.r, p.stored.number, p.stored.octets, p.values, p.marks, out);
+    Refusal::unless_accepted(w.reply)?;
+    Ok(&out[..w.len as usize])
+}
+
+/// Packs a source field, with the least R and the least E that do, into a message at the front of `out`, and hands out its octets.
+pub fn pack<'o>(pds: &[u8], form: &Form, stored: Stored, source: &Source, out: &'o mut [u8]) -> Result<&'o [u8], Refusal> {
+    let w = face::pack(pds, form_record(form), stored.number, stored.octets, source.numbers, source.marks, source.d, out);
+    Refusal::unless_accepted(w.reply)?;
+    Ok(&out[..w.len as usize])
+}
+
+fn header_of(h: &records::Header) -> Header {
+    let g = h.grid;
+    Header {
+        points: h.points,
+        present: h.present,
+        grid: Grid {
+            ni: g.ni,
+            nj: g.nj,
+            la1: g.la1,
+            lo1: g.lo1,
+            flags: g.flags,
+            la2: g.la2,
+            lo2: g.lo2,
+            di: g.di,
+            dj: g.dj,
+            scan: g.scan,
+        },
+        bitmap: match h.bitmap {
+            1 => Bitmap::Carried,
+            2 => Bitmap::Stored(h.number),
+            _ => Bitmap::Without,
+        },
+        time: Moment { year: h.year, month: h.month, day: h.day, hour: h.hour, minute: h.minute },
+        d: h.d,
+        e: h.e,
+        r: h.r,
+        flags: h.flags,
+        bits: h.bits,
+    }
+}
+
+fn form_record(f: &Form) -> records::Form {
+    let (given, grid) = match f.grid {
+        Some(g) => (
+            1,
+            records::Grid {
+                la1: g.la1,
+                lo1: g.lo1,
+                la2: g.la2,
+                lo2: g.lo2,
+                ni: g.ni,
+                nj: g.nj,
+                di: g.di,
+                dj: g.dj,
+                flags: g.flags,
+                scan: g.scan,
+            },
+        ),
+        None => (0, records::Grid { la1: 0, lo1: 0, la2: 0, lo2: 0, ni: 0, nj: 0, di: 0, dj: 0, flags: 0, scan: 0 }),
+    };
+    let (bitmap, number) = match f.bitmap {
+        Bitmap::Without => (0, 0),
+        Bitmap::Carried => (1, 0),
+        Bitmap::Stored(number) => (2, number),
+    };
+    records::Form { given, bitmap, grid, number, flags: f.flags, bits: f.bits }
+}

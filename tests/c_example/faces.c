@@ -1,0 +1,235 @@
+/* Every function of include/grib1.h on document 01's specimen, each field of each record compared: what the header declares is what the
+ * archive has. Prints the lines of what differs, and ends with 1 where any does. */
+#include <stdio.h>
+#include <string.h>
+
+#include "grib1.h"
+
+static const uint8_t specimen[94] = {
+    0x47, 0x52, 0x49, 0x42, 0x00, 0x00, 0x5E, 0x01,
+    0x00, 0x00, 0x1C, 0x03, 0x07, 0x00, 0xFF, 0xC0, 0x0B, 0x64, 0x01, 0xF4, 0x62, 0x03, 0x0A, 0x06,
+    0x00, 0x01, 0x00, 0x00, 0x00, 0x00, 0x00, 0x00, 0x14, 0x00, 0x00, 0x01,
+    0x00, 0x00, 0x20, 0x00, 0xFF, 0x00, 0x00, 0x02, 0x00, 0x02, 0x00, 0xC3, 0x50, 0x80, 0x07, 0xD0,
+    0x80, 0x00, 0xC7, 0x38, 0x80, 0x03, 0xE8, 0x03, 0xE8, 0x03, 0xE8, 0x40,
+    0x00, 0x00, 0x00, 0x00,
+    0x00, 0x00, 0x08, 0x0C, 0x00, 0x00, 0xD0, 0x00,
+    0x00, 0x00, 0x0E, 0x0F, 0x00, 0x00, 0x43, 0x9C, 0x40, 0x00, 0x03, 0x0B, 0x80, 0x00,
+    0x37, 0x37, 0x37, 0x37,
+};
+static const uint8_t none[1];
+static int differ;
+
+static void same_at(int line, double is, double wanted)
+{
+    if (is != wanted) {
+        printf("faces.c:%d: %.17g, not %.17g\n", line, is, wanted);
+        differ = 1;
+    }
+}
+#define same(is, wanted) same_at(__LINE__, (double)(is), (double)(wanted))
+
+static void part(int line, Grib1Part p, uint32_t stored, uint32_t start, uint32_t len)
+{
+    same_at(line, p.stored, stored);
+    same_at(line, p.start, start);
+    same_at(line, p.len, len);
+}
+
+static void is_specimen(int line, Grib1Header h)
+{
+    same_at(line, h.reply, GRIB1_ACCEPTED);
+    same_at(line, h.points, 4);
+    same_at(line, h.present, 3);
+    same_at(line, h.d, 1);
+    same_at(line, h.e, 0);
+    same_at(line, h.r, 0x439C4000);
+    same_at(line, h.bitmap, GRIB1_CARRIED);
+    same_at(line, h.grid.la1, 50000);
+    same_at(line, h.grid.lo1, -2000);
+    same_at(line, h.grid.la2, 51000);
+    same_at(line, h.grid.lo2, -1000);
+    same_at(line, h.grid.ni, 2);
+    same_at(line, h.grid.nj, 2);
+    same_at(line, h.grid.di, 1000);
+    same_at(line, h.grid.dj, 1000);
+    same_at(line, h.grid.flags, 128);
+    same_at(line, h.grid.scan, 64);
+    part(line, h.pds, 0, 8, 28);
+    part(line, h.gds, 0, 36, 32);
+    part(line, h.bms, 0, 68, 8);
+    part(line, h.bds, 0, 76, 14);
+    same_at(line, h.number, 0);
+    same_at(line, h.year, 1998);
+    same_at(line, h.month, 3);
+    same_at(line, h.day, 10);
+    same_at(line, h.hour, 6);
+    same_at(line, h.minute, 0);
+    same_at(line, h.flags, 0);
+    same_at(line, h.bits, 3);
+}
+
+/* every field 0 but the reply */
+static void refused(int line, Grib1Header h, uint32_t reply)
+{
+    same_at(line, h.reply, reply);
+    same_at(line, h.points + h.present + h.r + h.bitmap, 0);
+    same_at(line, h.d, 0);
+    same_at(line, h.e, 0);
+    same_at(line, h.grid.la1 | h.grid.lo1 | h.grid.la2 | h.grid.lo2, 0);
+    same_at(line, h.grid.ni + h.grid.nj + h.grid.di + h.grid.dj + h.grid.flags + h.grid.scan, 0);
+    part(line, h.pds, 0, 0, 0);
+    part(line, h.gds, 0, 0, 0);
+    part(line, h.bms, 0, 0, 0);
+    part(line, h.bds, 0, 0, 0);
+    same_at(line, h.number + h.year + h.month + h.day + h.hour + h.minute + h.flags + h.bits, 0);
+}
+
+static void reading(void)
+{
+    uint32_t values[5] = {9, 9, 9, 9, 9};
+    uint8_t marks[5] = {9, 9, 9, 9, 9};
+    static const uint32_t x[5] = {0, 2, 0, 7, 9};
+    static const uint8_t m[5] = {1, 1, 0, 1, 9};
+    static const uint8_t nines[5] = {9, 9, 9, 9, 9};
+    int i;
+
+    is_specimen(__LINE__, grib1_header(specimen, 94, 0, none, 0));
+    refused(__LINE__, grib1_header(specimen, 93, 0, none, 0), GRIB1_TOTAL);
+    refused(__LINE__, grib1_header(specimen, 0, 0, none, 0), GRIB1_SIZE);
+    refused(__LINE__, grib1_read(specimen, 94, 0, none, 0, values, 3, marks, 5), GRIB1_ROOM);
+    refused(__LINE__, grib1_read(specimen, 94, 0, none, 0, values, 5, marks, 3), GRIB1_ROOM);
+    for (i = 0; i < 5; i++)
+        same(values[i], 9);
+    same(memcmp(marks, nines, 5), 0);
+    is_specimen(__LINE__, grib1_read(specimen, 94, 0, none, 0, values, 5, marks, 5));
+    for (i = 0; i < 5; i++)
+        same(values[i], x[i]);
+    same(memcmp(marks, m, 5), 0);
+}
+
+static void parts(void)
+{
+    static const uint32_t start[8] = {0, 8, 36, 68, 76, 90, 0, 0};
+    static const uint32_t len[8] = {8, 28, 32, 8, 14, 4, 0, 0};
+    Grib1Display d = grib1_display(specimen, 94, 0, none, 0);
+    uint32_t k;
+
+    for (k = 0; k < 8; k++)
+        part(__LINE__, grib1_section(specimen, 94, 0, none, 0, k), 0, start[k], len[k]);
+    part(__LINE__, grib1_section(specimen, 94, 0, none, 0, 0xFFFFFFFF), 0, 0, 0);
+    part(__LINE__, grib1_section(specimen, 93, 0, none, 0, 1), 0, 0, 0);
+    part(__LINE__, grib1_bitmap(specimen, 94, 0, none, 0), 0, 74, 1);
+    part(__LINE__, grib1_bitmap(specimen, 93, 0, none, 0), 0, 0, 0);
+    same(d.reply, GRIB1_ACCEPTED);
+    same(d.reference, 2500);
+    same(d.step, 1);
+    d = grib1_display(specimen, 93, 0, none, 0);
+    same(d.reply, GRIB1_TOTAL);
+    same(d.reference, 0);
+    same(d.step, 0);
+}
+
+static void points(void)
+{
+    static const uint32_t row[5] = {1, 1, 0, 0, 0};
+    static const uint32_t column[5] = {0, 1, 0, 1, 0};
+    static const uint32_t kind[5] = {GRIB1_PRESENT, GRIB1_PRESENT, GRIB1_ABSENT, GRIB1_PRESENT, GRIB1_OUTSIDE};
+    static const uint32_t number[5] = {0, 1, 0, 2, 0};
+    uint32_t k;
+
+    for (k = 0; k < 5; k++) {
+        Grib1Place p = grib1_place(2, 2, 64, k);
+        Grib1Data d = grib1_data_number(specimen, 94, 0, none, 0, k);
+        same(p.on, k < 4);
+        same(p.row, row[k]);
+        same(p.column, column[k]);
+        same(d.kind, kind[k]);
+        same(d.number, number[k]);
+        if (k < 4) {
+            Grib1Point back = grib1_point(2, 2, 64, p.row, p.column);
+            same(back.on, 1);
+            same(back.point, k);
+        }
+    }
+    same(grib1_point(2, 2, 64, 2, 0).on, 0);
+    same(grib1_point(2, 2, 64, 0, 2).point, 0);
+    same(grib1_data_number(specimen, 93, 0, none, 0, 0).kind, GRIB1_OUTSIDE);
+}
+
+static void writing(void)
+{
+    static const uint32_t values[4] = {0, 2, 0, 7};
+    static const uint8_t marks[4] = {1, 1, 0, 1};
+    static const int32_t numbers[4] = {2500, 2502, 77, 2507};
+    static const int32_t far[4] = {2500, 2502, 77, 2508};
+    static const uint8_t store[1] = {0xDF};
+    const uint8_t *pds = specimen + 8;
+    Grib1Header h = grib1_header(specimen, 94, 0, none, 0);
+    Grib1Form form;
+    Grib1Written w;
+    uint8_t out[96];
+
+    form.given = 1;
+    form.bitmap = h.bitmap;
+    form.grid = h.grid;
+    form.number = h.number;
+    form.flags = h.flags;
+    form.bits = h.bits;
+
+    memset(out, 0xAA, sizeof out);
+    w = grib1_write(pds, 28, form, h.e, h.r, 0, none, 0, values, 4, marks, 4, out, 93);
+    same(w.reply, GRIB1_ROOM);
+    same(w.len, 0);
+    same(out[0], 0xAA);
+    w = grib1_write(pds, 28, form, h.e, h.r, 0, none, 0, values, 4, marks, 4, out, 96);
+    same(w.reply, GRIB1_ACCEPTED);
+    same(w.len, 94);
+    same(memcmp(out, specimen, 94), 0);
+    same(out[94], 0xAA);
+
+    memset(out, 0xAA, sizeof out);
+    w = grib1_pack(pds, 28, form, 0, none, 0, numbers, 4, marks, 4, 1, out, 96);
+    same(w.reply, GRIB1_ACCEPTED);
+    same(w.len, 94);
+    same(memcmp(out, specimen, 94), 0);
+    same(grib1_pack(pds, 28, form, 0, none, 0, numbers, 4, marks, 4, 2, out, 96).reply, GRIB1_DIFFERS);
+
+    same(grib1_check(specimen, 94, 0, none, 0, numbers, 4, marks, 4, 1).reply, GRIB1_ACCEPTED);
+    same(grib1_check(specimen, 94, 0, none, 0, far, 4, marks, 4, 1).reply, GRIB1_OUT);
+    same(grib1_check(specimen, 94, 0, none, 0, numbers, 4, marks, 4, -1).reply, GRIB1_DIFFERS);
+    same(grib1_check(specimen, 94, 0, none, 0, numbers, 3, marks, 4, 1).reply, GRIB1_SOURCE);
+
+    /* kinds that have no name */
+    form.given = 2;
+    form.bitmap = 3;
+    same(grib1_write(pds, 28, form, 0, h.r, 0, none, 0, values, 4, marks, 4, out, 96).reply, GRIB1_GRID);
+    form.given = 1;
+    same(grib1_write(pds, 28, form, 0, h.r, 0, none, 0, values, 4, marks, 4, out, 96).reply, GRIB1_BITMAP);
+    same(grib1_pack(pds, 28, form, 0, none, 0, numbers, 4, marks, 4, 1, out, 96).reply, GRIB1_BITMAP);
+    form.bitmap = 0xFFFFFFFF;
+    same(grib1_write(pds, 28, form, 0, h.r, 0, none, 0, values, 4, marks, 4, out, 96).reply, GRIB1_BITMAP);
+
+    /* a stored bitmap of number 5, and the same message without it */
+    form.bitmap = GRIB1_STORED;
+    form.number = 5;
+    w = grib1_write(pds, 28, form, h.e, h.r, 5, store, 1, values, 4, marks, 4, out, 96);
+    same(w.reply, GRIB1_ACCEPTED);
+    same(w.len, 92);
+    part(__LINE__, grib1_bitmap(out, 92, 5, store, 1), 1, 0, 1);
+    h = grib1_header(out, 92, 5, store, 1);
+    same(h.bitmap, GRIB1_STORED);
+    same(h.number, 5);
+    same(h.present, 3);
+    refused(__LINE__, grib1_header(out, 92, 0, none, 0), GRIB1_BITMAP);
+    refused(__LINE__, grib1_header(out, 92, 6, store, 1), GRIB1_BITMAP);
+    same(grib1_data_number(out, 92, 5, store, 1, 3).number, 2);
+}
+
+int main(void)
+{
+    reading();
+    parts();
+    points();
+    writing();
+    return differ;
+}
