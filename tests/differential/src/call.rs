@@ -1,0 +1,288 @@
+//! One call of the codec: what is sent to the driver, and what must come back.
+
+use second_reading as rules;
+use second_reading::{BitmapKind, DataNumber, Form, Grid, Header, Lent, Part, Parts, Source};
+
+/// The functions by the driver's numbers.
+const HEADER: u32 = 0;
+const READ: u32 = 1;
+const SECTION: u32 = 2;
+const BITMAP: u32 = 3;
+const DISPLAY: u32 = 4;
+const DATA_NUMBER: u32 = 5;
+const CHECK: u32 = 6;
+const PLACE: u32 = 7;
+const POINT: u32 = 8;
+const WRITE: u32 = 9;
+const PACK: u32 = 10;
+
+pub struct Call {
+    /// What is called, for the report of a difference.
+    pub what: String,
+    pub asked: Vec<u8>,
+    pub expected: Vec<u8>,
+    /// The reply expected, where the function gives one.
+    pub reply: Option<u32>,
+}
+
+#[derive(Default)]
+struct Octets(Vec<u8>);
+
+impl Octets {
+    fn word(&mut self, x: u32) -> &mut Octets {
+        self.0.extend(x.to_le_bytes());
+        self
+    }
+
+    fn words(&mut self, xs: &[u32]) -> &mut Octets {
+        for &x in xs {
+            self.word(x);
+        }
+        self
+    }
+
+    fn octets(&mut self, xs: &[u8]) -> &mut Octets {
+        self.0.extend(xs);
+        self
+    }
+
+    /// A buffer as it is asked: its count of elements first.
+    fn list(&mut self, xs: &[u8]) -> &mut Octets {
+        self.word(xs.len() as u32).octets(xs)
+    }
+
+    fn list_of_words(&mut self, xs: &[u32]) -> &mut Octets {
+        self.word(xs.len() as u32).words(xs)
+    }
+
+    fn lent(&mut self, lent: &Lent) -> &mut Octets {
+        self.word(lent.number as u32).list(&lent.octets)
+    }
+
+    fn grid(&mut self, g: &Grid) -> &mut Octets {
+        self.words(&[g.la1 as u32, g.lo1 as u32, g.la2 as u32, g.lo2 as u32])
+            .words(&[g.ni as u32, g.nj as u32, g.di as u32, g.dj as u32])
+            .words(&[g.flags as u32, g.scan as u32])
+    }
+
+    fn part(&mut self, stored: bool, p: Part) -> &mut Octets {
+        self.words(&[stored as u32, p.start, p.len])
+    }
+
+    fn header(&mut self, h: &Header) -> &mut Octets {
+        let (kind, number) = bitmap_numbers(h.bitmap);
+        self.words(&[h.reply, h.points, h.present, h.d as u32, h.e as u32, h.r, kind])
+            .grid(&h.grid)
+            .part(false, h.places.pds)
+            .part(false, h.places.gds)
+            .part(false, h.places.bms)
+            .part(false, h.places.bds)
+            .words(&[number, h.time.year, h.time.month, h.time.day, h.time.hour, h.time.minute])
+            .words(&[h.flags as u32, h.bits as u32])
+    }
+
+    fn form(&mut self, form: &Form, kinds: Kinds) -> &mut Octets {
+        let (kind, number) = bitmap_numbers(form.bitmap);
+        self.words(&[kinds.given.unwrap_or(form.grid.is_some() as u32), kinds.bitmap.unwrap_or(kind)])
+            .grid(&form.grid.unwrap_or_default())
+            .words(&[number, form.flags as u32, form.bits as u32])
+    }
+
+    /// What the driver says last: nothing else has changed.
+    fn kept(&mut self) -> Vec<u8> {
+        self.word(1);
+        std::mem::take(&mut self.0)
+    }
+}
+
+fn bitmap_numbers(kind: BitmapKind) -> (u32, u32) {
+    match kind {
+        BitmapKind::Without => (0, 0),
+        BitmapKind::Carried => (1, 0),
+        BitmapKind::Stored(number) => (2, number as u32),
+    }
+}
+
+/// Kinds that the C face takes and that have no name: "any other number is refused".
+#[derive(Clone, Copy, Default)]
+pub struct Kinds {
+    pub given: Option<u32>,
+    pub bitmap: Option<u32>,
+}
+
+/// What a form with such kinds stands for: a grid that 9 refuses, a stored bitmap that 10 refuses.
+fn form_meant(form: &Form, kinds: Kinds) -> Form {
+    Form {
+        grid: if kinds.given.is_some() { Some(Grid::default()) } else { form.grid },
+        bitmap: if kinds.bitmap.is_some() { BitmapKind::Stored(0) } else { form.bitmap },
+        ..*form
+    }
+}
+
+fn asked(function: u32, message: &[u8], lent: &Lent) -> Octets {
+    let mut asked = Octets::default();
+    asked.word(function).list(message).lent(lent);
+    asked
+}
+
+pub fn header(message: &[u8], lent: &Lent) -> (Header, Call) {
+    let h = rules::header(message, lent);
+    let call = Call {
+        what: "header".into(),
+        asked: asked(HEADER, message, lent).0,
+        expected: Octets::default().header(&h).kept(),
+        reply: Some(h.reply),
+    };
+    (h, call)
+}
+
+pub fn read(message: &[u8], lent: &Lent, values: &[u32], marks: &[u8]) -> Call {
+    let (mut v, mut m) = (values.to_vec(), marks.to_vec());
+    let h = rules::read(message, lent.number, &lent.octets, &mut v, &mut m);
+    Call {
+        what: format!("read into {} values and {} marks", values.len(), marks.len()),
+        asked: std::mem::take(&mut asked(READ, message, lent).list_of_words(values).list(marks).0),
+        expected: Octets::default().header(&h).words(&v).octets(&m).kept(),
+        reply: Some(h.reply),
+    }
+}
+
+pub fn section(message: &[u8], lent: &Lent, k: u32) -> Call {
+    let part = rules::section(message, lent, k);
+    Call {
+        what: format!("section {k}"),
+        asked: std::mem::take(&mut asked(SECTION, message, lent).word(k).0),
+        expected: Octets::default().part(false, part).kept(),
+        reply: None,
+    }
+}
+
+pub fn bitmap(message: &[u8], lent: &Lent) -> Call {
+    let (stored, part) = rules::bitmap_in_force(message, lent);
+    Call {
+        what: "bitmap in force".into(),
+        asked: asked(BITMAP, message, lent).0,
+        expected: Octets::default().part(stored, part).kept(),
+        reply: None,
+    }
+}
+
+pub fn display(message: &[u8], lent: &Lent) -> Call {
+    let (reply, reference, step) = rules::display(message, lent);
+    Call {
+        what: "display".into(),
+        asked: asked(DISPLAY, message, lent).0,
+        expected: Octets::default()
+            .word(reply)
+            .octets(&reference.to_le_bytes())
+            .octets(&step.to_le_bytes())
+            .kept(),
+        reply: Some(reply),
+    }
+}
+
+pub fn data_number(message: &[u8], lent: &Lent, point: u32) -> Call {
+    let (kind, number) = match rules::data_number(message, lent, point) {
+        DataNumber::Outside => (0, 0),
+        DataNumber::Present(number) => (1, number),
+        DataNumber::Absent => (2, 0),
+    };
+    Call {
+        what: format!("data number of {point}"),
+        asked: std::mem::take(&mut asked(DATA_NUMBER, message, lent).word(point).0),
+        expected: Octets::default().words(&[kind, number]).kept(),
+        reply: None,
+    }
+}
+
+pub fn place(ni: u16, nj: u16, scan: u8, point: u32) -> Call {
+    let told = match rules::place_of(ni, nj, scan, point) {
+        None => [0, 0, 0],
+        Some((row, column)) => [1, row, column],
+    };
+    let mut asked = Octets::default();
+    asked.words(&[PLACE, ni as u32, nj as u32, scan as u32, point]);
+    Call {
+        what: format!("place of {point} on {ni} by {nj}, scan {scan}"),
+        asked: asked.0,
+        expected: Octets::default().words(&told).kept(),
+        reply: None,
+    }
+}
+
+pub fn point(ni: u16, nj: u16, scan: u8, row: u32, column: u32) -> Call {
+    let told = match rules::point_at(ni, nj, scan, row, column) {
+        None => [0, 0],
+        Some(point) => [1, point],
+    };
+    let mut asked = Octets::default();
+    asked.words(&[POINT, ni as u32, nj as u32, scan as u32, row, column]);
+    Call {
+        what: format!("point at {row}, {column} on {ni} by {nj}, scan {scan}"),
+        asked: asked.0,
+        expected: Octets::default().words(&told).kept(),
+        reply: None,
+    }
+}
+
+pub fn write(parts: &Parts, kinds: Kinds, out: &[u8]) -> Call {
+    let meant = Parts { form: form_meant(&parts.form, kinds), ..parts.clone() };
+    let mut after = out.to_vec();
+    let (reply, len) = rules::write(&meant, &mut after);
+    let mut asked = Octets::default();
+    asked
+        .word(WRITE)
+        .list(&parts.pds)
+        .form(&parts.form, kinds)
+        .words(&[parts.e as u32, parts.r])
+        .lent(&parts.lent)
+        .list_of_words(&parts.values)
+        .list(&parts.marks)
+        .list(out);
+    Call {
+        what: format!("write into {} octets", out.len()),
+        asked: asked.0,
+        expected: Octets::default().words(&[reply, len]).octets(&after).kept(),
+        reply: Some(reply),
+    }
+}
+
+fn numbers(source: &Source) -> Vec<u32> {
+    source.numbers.iter().map(|&v| v as u32).collect()
+}
+
+pub fn check(message: &[u8], lent: &Lent, source: &Source) -> Call {
+    let reply = rules::check(message, lent, &source.numbers, &source.marks, source.d);
+    let mut asked = asked(CHECK, message, lent);
+    asked.list_of_words(&numbers(source)).list(&source.marks).word(source.d as u32);
+    Call {
+        what: "check".into(),
+        asked: asked.0,
+        expected: Octets::default().word(reply).kept(),
+        reply: Some(reply),
+    }
+}
+
+/// The call, and what the output must hold after it.
+pub fn pack(pds: &[u8], form: &Form, kinds: Kinds, lent: &Lent, source: &Source, out: &[u8]) -> (Call, Vec<u8>) {
+    let mut after = out.to_vec();
+    let (reply, len) = rules::pack(pds, &form_meant(form, kinds), lent, source, &mut after);
+    let mut asked = Octets::default();
+    asked
+        .word(PACK)
+        .list(pds)
+        .form(form, kinds)
+        .lent(lent)
+        .list_of_words(&numbers(source))
+        .list(&source.marks)
+        .word(source.d as u32)
+        .list(out);
+    let call = Call {
+        what: format!("pack into {} octets", out.len()),
+        asked: asked.0,
+        expected: Octets::default().words(&[reply, len]).octets(&after).kept(),
+        reply: Some(reply),
+    };
+    after.truncate(len as usize);
+    (call, after)
+}

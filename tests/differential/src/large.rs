@@ -1,0 +1,147 @@
+//! Fields of many points: every grid of the catalogue, the widest and the highest charts, bitmaps with whole octets of ones and of zeros, every N.
+
+use crate::call::{self, Call, Kinds};
+use second_reading::cases::Rng;
+use second_reading::grid::{from_catalogue, points};
+use second_reading::{write, BitmapKind, Form, Grid, Lent, Parts, Source};
+
+const CATALOGUE: [u8; 7] = [2, 3, 29, 30, 33, 34, 45];
+
+/// A PDS of a length, with a time that keeps the rules.
+fn pds(rng: &mut Rng, number: u8, has_grid: bool, has_bitmap: bool, d: i32) -> Vec<u8> {
+    let length = rng.pick(&[28, 28, 30, 64, 1_024]);
+    let mut pds = rng.octets(length);
+    pds[..3].copy_from_slice(&(length as u32).to_be_bytes()[1..]);
+    pds[6] = number;
+    pds[7] = (has_grid as u8) << 7 | (has_bitmap as u8) << 6 | rng.octet() & 0x3F;
+    let time = [rng.below(100), 1 + rng.below(12), 1 + rng.below(28), rng.below(24), rng.below(60)];
+    for (k, part) in time.into_iter().enumerate() {
+        pds[12 + k] = part as u8;
+    }
+    pds[24] = 18 + rng.below(82) as u8;
+    pds[26..28].copy_from_slice(&(d.unsigned_abs() as u16 | (d < 0) as u16 * 0x8000).to_be_bytes());
+    pds
+}
+
+/// A chart of up to 65,536 points.
+fn wide_grid(rng: &mut Rng) -> Grid {
+    let (a, b) = (1 + rng.below(300), 1 + rng.below(200));
+    let (ni, nj) = rng.pick(&[(256, 256), (65_534, 1), (1, 65_534), (2, 32_768), (32_768, 2), (255, 257), (a, b), (a, b), (a, b), (a, b), (a, b)]);
+    let scan = (rng.below(8) * 32) as u8 | rng.octet() & 0x1F;
+    let (south, north) = (-90_000 + rng.below(90_000) as i32, 1 + rng.below(90_000) as i32);
+    let upward = scan & 0x40 != 0;
+    Grid {
+        ni: ni as u16,
+        nj: nj as u16,
+        la1: if upward { south } else { north },
+        lo1: rng.between(-360_000, 360_000) as i32,
+        flags: rng.octet(),
+        la2: if upward { north } else { south },
+        lo2: rng.between(-360_000, 360_000) as i32,
+        di: rng.draw() as u16,
+        dj: rng.draw() as u16,
+        scan,
+    }
+}
+
+/// Marks in stretches, so that whole octets of a bitmap are ones, zeros or mixed.
+fn stretches(rng: &mut Rng, n: usize) -> Vec<u8> {
+    let mut marks = Vec::with_capacity(n);
+    while marks.len() < n {
+        let percent = rng.pick(&[0, 0, 50, 50, 100, 100]);
+        let long = (1 + rng.below(90)).min(n - marks.len());
+        marks.extend((0..long).map(|_| rng.chance(percent) as u8));
+    }
+    marks
+}
+
+fn bits_in_octets(rng: &mut Rng, marks: &[u8]) -> Vec<u8> {
+    let mut octets = rng.octets(marks.len().div_ceil(8) + 2);
+    for (k, mark) in marks.iter().enumerate() {
+        let bit = 0x80 >> (k % 8);
+        octets[k / 8] = octets[k / 8] & !bit | mark * bit;
+    }
+    octets
+}
+
+/// What reading ignores, made noise: padding of bitmap and data, the GDS's reserved octets.
+fn stain(rng: &mut Rng, message: &mut [u8], header: &second_reading::Header) {
+    let places = &header.places;
+    if places.gds.len > 0 {
+        for octet in &mut message[places.gds.start as usize + 28..][..4] {
+            *octet = rng.octet();
+        }
+    }
+    let mut noise = |part: second_reading::Part, unused: u32| {
+        let end = (part.start + part.len) as usize * 8;
+        for bit in end - unused as usize..end {
+            if rng.chance(50) {
+                message[bit / 8] ^= 0x80 >> (bit % 8);
+            }
+        }
+    };
+    if header.bitmap == BitmapKind::Carried {
+        noise(places.bms, (places.bms.len - 6) * 8 - header.points);
+    }
+    noise(places.bds, (places.bds.len - 11) * 8 - header.present * header.bits as u32);
+}
+
+pub fn calls(seed: u64, index: usize) -> Vec<Call> {
+    let mut rng = Rng::new(seed ^ 0x1A46E ^ (index as u64) << 20);
+    let rng = &mut rng;
+    let catalogued = index % 3 == 0;
+    let number = CATALOGUE[index / 3 % CATALOGUE.len()];
+    let grid = if catalogued { from_catalogue(number).expect("in the catalogue") } else { wide_grid(rng) };
+    let n = points(&grid) as usize;
+    let bitmap = rng.pick(&[BitmapKind::Without, BitmapKind::Carried, BitmapKind::Stored(7)]);
+    let marks = if bitmap == BitmapKind::Without { vec![1; n] } else { stretches(rng, n) };
+    let bits = (index % 25) as u8;
+    let form = Form { grid: (!catalogued).then_some(grid), bitmap, flags: rng.pick(&[0, 2]), bits };
+    let d = rng.between(-300, 300) as i32;
+    let lent = match bitmap {
+        BitmapKind::Stored(number) => Lent { number, octets: bits_in_octets(rng, &marks) },
+        _ => Lent::default(),
+    };
+    let pds = pds(rng, number, !catalogued, bitmap != BitmapKind::Without, d);
+    let values = marks.iter().map(|&mark| (rng.draw() & ((1 << bits) - 1)) as u32 * mark as u32).collect();
+    let parts = Parts { pds: pds.clone(), form, e: rng.between(-400, 400) as i32, r: rng.draw() as u32, lent: lent.clone(), values, marks: marks.clone() };
+
+    // written with room to spare, exactly enough, and one octet short
+    let mut message = vec![0; 300_000];
+    let (reply, len) = write(&parts, &mut message);
+    assert_eq!(reply, 0, "large {index} is sound");
+    message.truncate(len as usize);
+    let out: Vec<u8> = (0..message.len() + 40).map(|k| (200 + k % 50) as u8).collect();
+    let kinds = Kinds::default();
+    let mut calls = vec![
+        call::write(&parts, kinds, &out),
+        call::write(&parts, kinds, &out[..message.len()]),
+        call::write(&parts, kinds, &out[..message.len() - 1]),
+    ];
+
+    let (header, _) = call::header(&message, &lent);
+    stain(rng, &mut message, &header);
+    calls.push(call::header(&message, &lent).1);
+    let spare = rng.below(40);
+    let lists: (Vec<u32>, Vec<u8>) = ((0..n + spare).map(|k| k as u32 | 0xFE00_0000).collect(), (0..n + spare).map(|k| (2 + k % 250) as u8).collect());
+    calls.push(call::read(&message, &lent, &lists.0, &lists.1));
+    calls.push(call::read(&message, &lent, &lists.0[..n - 1], &lists.1));
+    calls.push(call::bitmap(&message, &lent));
+    calls.push(call::display(&message, &lent));
+    for point in [0, n / 2, n - 1, n] {
+        calls.push(call::data_number(&message, &lent, point as u32));
+        calls.push(call::place(grid.ni, grid.nj, grid.scan, point as u32));
+    }
+
+    // a source packed and checked
+    let spread = 1 + rng.below(1 << (bits.min(21) + 2)) as i64;
+    let low = rng.between(-8_388_607, 8_388_607 - spread);
+    let numbers = marks.iter().map(|&mark| if mark == 1 { rng.between(low, low + spread) as i32 } else { rng.draw() as i32 }).collect();
+    let source = Source { numbers, marks, d };
+    let (packed, message) = call::pack(&pds, &form, kinds, &lent, &source, &out);
+    if packed.reply == Some(0) {
+        calls.push(call::check(&message, &lent, &source));
+    }
+    calls.push(packed);
+    calls
+}
