@@ -85,7 +85,8 @@ static void line(const char *what, unsigned n, size_t points, double ours, doubl
 static void one(unsigned n, uint16_t ni, uint16_t nj)
 {
     size_t points = (size_t)ni * nj, m = 0;
-    uint32_t mask = (1u << n) - 1;
+    uint32_t mask = (1u << n) - 1, most = mask < 16777214 ? mask : 16777214;
+    int32_t least = n == 24 ? -8388607 : -1000; /* source numbers lie within 8,388,607 */
     Grib1Form without = form_of(GRIB1_WITHOUT, n, ni, nj), carried = form_of(GRIB1_CARRIED, n, ni, nj);
     Grib1Written w, v;
     Grib1Header h;
@@ -96,11 +97,11 @@ static void one(unsigned n, uint16_t ni, uint16_t nj)
     for (size_t i = 0; i < points; i++) {
         values[i] = some() & mask;
         marks[i] = 1;
-        numbers[i] = (int32_t)values[i] - 1000;
+        numbers[i] = (int32_t)(values[i] < most ? values[i] : most) + least;
     }
-    /* so that E is 0 and R the least */
-    numbers[0] = -1000;
+    /* so that R is the least and E is 0 */
     values[0] = 0;
+    numbers[0] = least;
     w = grib1_write(pds, sizeof pds, without, 0, 0, 0, pds, 0, values, points, marks, points, message, MESSAGE);
     must(w.reply == 0, "the message written");
     h = grib1_read(message, w.len, 0, pds, 0, back, points, marks_back, points);
@@ -136,8 +137,8 @@ static void one(unsigned n, uint16_t ni, uint16_t nj)
     v = grib1_pack(pds, sizeof pds, without, 0, pds, 0, numbers, points, marks, points, 0, other, MESSAGE);
     must(v.reply == 0, "the message packed");
     must(grib1_check(other, v.len, 0, pds, 0, numbers, points, marks, points, 0).reply == 0, "the check");
-    must(plain_check(other + h.bds.start + 11, n, numbers, points, -1000, 0), "plain C's check");
-    BEST(plain_check(other + h.bds.start + 11, n, numbers, points, -1000, 0));
+    must(plain_check(other + h.bds.start + 11, n, numbers, points, least, 0), "plain C's check");
+    BEST(plain_check(other + h.bds.start + 11, n, numbers, points, least, 0));
     plain = best;
     BEST(grib1_check(other, v.len, 0, pds, 0, numbers, points, marks, points, 0));
     ours = best;

@@ -73,7 +73,8 @@ enum grib1_data_kind {
 typedef struct {
     uint32_t stored;           /* 0: a part of the message; 1: of store */
     uint32_t start;            /* place of its first octet */
-    uint32_t len;              /* how many octets it has; 0 and start 0 where there is none */
+    uint32_t len;              /* how many octets it has; 0 where there is none: start is then 0, but in a header where
+                                  the section would stand */
 } Grib1Part;
 
 /* A latitude/longitude grid. Latitudes and longitudes are in thousandths of a degree, north and east positive. */
