@@ -1,4 +1,5 @@
 pub mod Over
+pub mod Small
 pub mod Fits
 pub mod Puts
 pub mod Bits

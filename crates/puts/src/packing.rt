@@ -1,9 +1,11 @@
-// Numbers of up to 24 bits each packed one after another into octets from their start on: four octets are stored at each one's place, and
-// the four after the data, which the last stores may touch, are read first and put back.
+// Numbers of up to 24 bits each packed one after another into octets from their start on. Up to eight bits wide, eight numbers are stored at
+// once. Wider, four octets are stored at each one's place, and the four after the data, which the last stores may touch, are read first and put
+// back.
 ghost use mathlib.Core.Path.{_≡_};
 ghost use Prim.Native.Nat.{ℕ, _+_, _*_, _/_, _^_, _<_, _≤_};
-ghost use lib.ListN.{getD, length};
-ghost use Rattle.bits.specs.Bits.{octetsFor, packedInto};
+ghost use mathlib.Core.List.{List};
+ghost use lib.ListN.{getD, length, take};
+ghost use Rattle.bits.specs.Bits.{bitsIn, run, octetsFor, packedInto};
 ghost use Rattle.puts.specs.Cover.{over};
 ghost use Rattle.puts.specs.Pack.{allBelow, packFits, packed};
 use crate::fields::placed;
@@ -56,21 +58,65 @@ fn pack_over(vs: &[u32], n: usize, out: &mut [u8])
     }
 }
 
-// One by one, where nothing follows the data.
-fn pack_each(vs: &[u32], n: usize, out: &mut [u8])
+// One by one, from number `from` on, the ones before it being packed.
+fn pack_rest(vs: &[u32], n: usize, out: &mut [u8], from: usize)
     requires { ⌜ n ≤ 32 ⌝ }
     requires { ⌜ ((k : ℕ) → getD (now vs) k 0 < 2 ^ n) ⌝ }
     requires { ⌜ length (now vs) * n < 2 ^ 64 ⌝ }
     requires { ⌜ octetsFor (length (now vs) * n) ≤ length (now out) ⌝ }
-    ensures { λ _. ⌜ now (out .exit) ≡ packedInto n (now (vs .entry)) (now (out .entry)) ⌝ }
+    requires { ⌜ from ≤ length (now vs) ⌝ }
+    ensures { λ _. ⌜ ((d : List ℕ) → now (out .entry) ≡ packedInto n (take from (now (vs .entry))) d → now (out .exit) ≡ packedInto n (now (vs .entry)) d) ⌝ }
 {
-    let mut i: usize = 0;
-    let mut place: usize = 0;
+    let mut i = from;
+    let mut place = from * n;
     while i < vs.len() {
         placed(out, place, n, vs[i]);
         place += n;
         i += 1;
     }
+}
+
+// Eight numbers of up to eight bits each, from number i on, as one. It multiplies by 2^n, written so that the compiler does too: a shift by
+// a width that is not known takes the machine longer.
+fn eight(vs: &[u32], i: usize, n: usize) -> u64
+    requires { ⌜ n ≤ 8 ⌝ }
+    requires { ⌜ ((k : ℕ) → getD (now vs) k 0 < 2 ^ n) ⌝ }
+    requires { ⌜ i + 8 ≤ length (now vs) ⌝ }
+    ensures { λ r. ⌜ r ≡ run (bitsIn n (now (vs .entry))) (i * n) (8 * n) ⌝ }
+{
+    let power: u64 = (255 >> (8 - n)) + 1;
+    let mut all: u64 = 0;
+    let mut j: usize = 0;
+    while j < 8 {
+        all = all * power + vs[i + j] as u64;
+        j += 1;
+    }
+    all
+}
+
+// Numbers of up to eight bits: eight of them are n octets. While eight octets more lie in the data, so many are stored, and those past the n
+// stored over later.
+fn pack_small(vs: &[u32], n: usize, out: &mut [u8])
+    requires { ⌜ n ≤ 8 ⌝ }
+    requires { ⌜ ((k : ℕ) → getD (now vs) k 0 < 2 ^ n) ⌝ }
+    requires { ⌜ length (now vs) * n + 7 < 2 ^ 64 ⌝ }
+    requires { ⌜ octetsFor (length (now vs) * n) ≤ length (now out) ⌝ }
+    ensures { λ _. ⌜ now (out .exit) ≡ packedInto n (now (vs .entry)) (now (out .entry)) ⌝ }
+{
+    let end = (vs.len() * n + 7) / 8;
+    let mut k: usize = 0;
+    let mut i: usize = 0;
+    while end - k >= 8 {
+        store(out, k, 8, eight(vs, i, n) << (64 - 8 * n));
+        k += n;
+        i += 8;
+    }
+    while vs.len() - i >= 8 {
+        store(out, k, n, eight(vs, i, n));
+        k += n;
+        i += 8;
+    }
+    pack_rest(vs, n, out, i);
 }
 
 // Over what follows the data where that is four octets or more, which are then put back.
@@ -82,12 +128,14 @@ fn pack_all(vs: &[u32], n: usize, out: &mut [u8])
     ensures { λ _. ⌜ now (out .exit) ≡ packedInto n (now (vs .entry)) (now (out .entry)) ⌝ }
 {
     let end = (vs.len() * n + 7) / 8;
-    if out.len() - end >= 4 {
+    if n <= 8 {
+        pack_small(vs, n, out);
+    } else if out.len() - end >= 4 {
         let after = four(out, end, 1) as u64;
         pack_over(vs, n, out);
         store(out, end, 4, after);
     } else {
-        pack_each(vs, n, out);
+        pack_rest(vs, n, out, 0);
     }
 }
 
