@@ -34,19 +34,19 @@ pub below-none : (n : ℕ) (f : ℕ → Bool) → ltb 0 (2 ^ n) ≡ not (anyBelo
 unfolding anyBelow
 below-none n f = lt-ltb 0 (2 ^ n) (pow-pos n)
 
-pub below-turn : (n : ℕ) (vs : List ℕ) (i all : ℕ) → ltb all (2 ^ n) ≡ not (anyBelow (λ k. leb (2 ^ n) (getD vs k 0)) i)
-    → ltb (bitOr all (getD vs i 0)) (2 ^ n) ≡ not (anyBelow (λ k. leb (2 ^ n) (getD vs k 0)) (i + 1))
-unfolding anyBelow
-below-turn n vs i all e =
-    let f : ℕ → Bool = λ k. leb (2 ^ n) (getD vs k 0) in
-    or-below all (getD vs i 0) n ∙ ap₂ (λ (x y : Bool). x && y) e (turned (getD vs i 0) (2 ^ n)) ∙ sym (split (anyBelow f i) (f i)) ∙ ap (λ (x : ℕ). not (anyBelow f x)) (sym (add-one i))
-  where
-    turned : (x b : ℕ) → ltb x b ≡ not (leb b x)
-    turned x b = ⊎-elim
-        (λ h. lt-ltb x b h ∙ ap not (sym (lt-leb b x h)))
-        (λ h. le-ltb x b h ∙ ap not (sym (le-leb b x h)))
-        (lt-or-ge x b)
+pub below-least : (x b : ℕ) → ltb x b ≡ not (leb b x)
+below-least x b = ⊎-elim
+    (λ h. lt-ltb x b h ∙ ap not (sym (lt-leb b x h)))
+    (λ h. le-ltb x b h ∙ ap not (sym (le-leb b x h)))
+    (lt-or-ge x b)
 
+pub below-turn : (n : ℕ) (x : ℕ → ℕ) (i all : ℕ) → ltb all (2 ^ n) ≡ not (anyBelow (λ k. leb (2 ^ n) (x k)) i)
+    → ltb (bitOr all (x i)) (2 ^ n) ≡ not (anyBelow (λ k. leb (2 ^ n) (x k)) (i + 1))
+unfolding anyBelow
+below-turn n x i all e =
+    let f : ℕ → Bool = λ k. leb (2 ^ n) (x k) in
+    or-below all (x i) n ∙ ap₂ (λ (x y : Bool). x && y) e (below-least (x i) (2 ^ n)) ∙ sym (split (anyBelow f i) (f i)) ∙ ap (λ (x : ℕ). not (anyBelow f x)) (sym (add-one i))
+  where
     split : (x y : Bool) → not (x || y) ≡ not x && not y
     split true y = refl
     split false y = refl

@@ -13,7 +13,7 @@ use lib.ListN.{length, getD, set}
 use Rattle.bits.specs.Bits.{bitOf, bitsIn, run, runs, count, placed}
 use Rattle.bits.specs.Tables.{tab}
 use Rattle.bits.proofs.Runs.{Bits, bitsIn-bits, run-below}
-use Rattle.bits.proofs.Ones.{count-le}
+use Rattle.bits.proofs.Ones.{count-le, count-split}
 use Rattle.bits.proofs.Marks.{count-same}
 use Rattle.bits.proofs.Placing.{placed-none}
 use Rattle.bits.proofs.Trip.{length-runs}
@@ -25,13 +25,13 @@ use Rattle.sections.proofs.Placing.{placed-set}
 abbrev pub is-one : List ℕ → ℕ → ℕ
 is-one marks i = cond (eqb (markOf marks i) 1) 1 0
 
-pub marks-zero : (marks : List ℕ) → 0 ≡ count (is-one marks) 0 0
+pub marks-zero : (marks : List ℕ) (p : ℕ) → 0 ≡ count (is-one marks) p 0
 unfolding count
-marks-zero marks = refl
+marks-zero marks p = refl
 
-pub marks-one : (marks : List ℕ) (i m x : ℕ) → m ≡ count (is-one marks) 0 i → x ≡ is-one marks i → m + x ≡ count (is-one marks) 0 (i + 1)
+pub marks-one : (marks : List ℕ) (p i m x : ℕ) → m ≡ count (is-one marks) p i → x ≡ is-one marks (p + i) → m + x ≡ count (is-one marks) p (i + 1)
 unfolding count
-marks-one marks i m x e f = rw add-one (ap₂ (λ (a b : ℕ). a + b) e (f ∙ ap (is-one marks) (sym (zero-add i))))
+marks-one marks p i m x e f = rw add-one (ap₂ (λ (a b : ℕ). a + b) e f)
 
 bit-few : (b : Bool) → cond b 1 0 < 2
 bit-few true = omega arith
@@ -40,12 +40,16 @@ bit-few false = omega arith
 pub one-few : (marks : List ℕ) → Bits (is-one marks)
 one-few marks i = bit-few (eqb (markOf marks i) 1)
 
-pub marks-few : (marks : List ℕ) (i : ℕ) → count (is-one marks) 0 i ≤ i
-marks-few marks i = count-le (one-few marks) 0 i
+pub marks-few : (marks : List ℕ) (p i : ℕ) → count (is-one marks) p i ≤ i
+marks-few marks p i = count-le (one-few marks) p i
+
+-- more of them at once
+pub marks-more : (marks : List ℕ) (i c m x : ℕ) → m ≡ count (is-one marks) 0 i → x ≡ count (is-one marks) i c → m + x ≡ count (is-one marks) 0 (i + c)
+marks-more marks i c m x e f = ap₂ (λ (a b : ℕ). a + b) e (f ∙ ap (λ (a : ℕ). count (is-one marks) a c) (sym (zero-add i))) ∙ sym (count-split (is-one marks) 0 i c)
 
 pub present-few : (marks : List ℕ) → presentIn marks ≤ length marks
 unfolding presentIn
-present-few marks = marks-few marks (length marks)
+present-few marks = marks-few marks 0 (length marks)
 
 -- marks that are 0 or 1 are their own count
 pub present-count : (marks : List ℕ) → Bits (markOf marks) → presentIn marks ≡ count (markOf marks) 0 (length marks)

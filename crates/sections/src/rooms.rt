@@ -4,7 +4,8 @@ ghost use mathlib.Core.Bool.{cond};
 ghost use Prim.Native.Nat.{_+_, _^_, _<_, _≤_};
 ghost use lib.Dec.{eqb};
 ghost use lib.ListN.{length};
-ghost use Rattle.bits.specs.Bits.{octetsFor};
+ghost use Rattle.bits.specs.Bits.{octetsFor, count};
+ghost use Rattle.rules.specs.Bitmap.{markOf};
 ghost use Rattle.rules.specs.Numbers.{evenFrom};
 ghost use Rattle.sections.specs.Layout.{presentIn, gdsRoom, bmsRoom, bdsRoom, messageRoom};
 use rules::Bitmap;
@@ -68,13 +69,27 @@ pub(crate) fn message_room(pds: usize, form: Form, n: u32, m: u32) -> usize
     8 + (pds + (gds_room(grid) + bms_room(bitmap, n))) + (bds_room(form.packing.bits, m) + 4)
 }
 
-fn one(mark: u8) -> u32
+fn one(mark: u8) -> u8
     ensures { λ r. ⌜ r ≡ cond (eqb mark 1) 1 0 ⌝ }
 {
     if mark == 1 {
         return 1;
     }
     0
+}
+
+// How many of the c points from point p on the marks call present. So few that an octet counts them: the machine then takes many at once.
+fn some_present(marks: &[u8], p: usize, c: usize) -> u8
+    requires { ⌜ (p + c ≤ length (now marks)) × (c ≤ 255) ⌝ }
+    ensures { λ r. ⌜ r ≡ count (λ i. cond (eqb (markOf (now (marks .entry)) i) 1) 1 0) p c ⌝ }
+{
+    let mut m: u8 = 0;
+    let mut i: usize = 0;
+    while i < c {
+        m += one(marks[p + i]);
+        i += 1;
+    }
+    m
 }
 
 // How many points the marks call present.
@@ -84,9 +99,9 @@ pub(crate) fn present(marks: &[u8]) -> u32
 {
     let mut m: u32 = 0;
     let mut i: usize = 0;
-    while i < marks.len() {
-        m += one(marks[i]);
-        i += 1;
+    while marks.len() - i >= 128 {
+        m += some_present(marks, i, 128) as u32;
+        i += 128;
     }
-    m
+    m + some_present(marks, i, marks.len() - i) as u32
 }

@@ -3,8 +3,9 @@ use mathlib.Core.Path.{_≡_, refl, sym, ap, ap₂, _∙_, subst}
 use mathlib.Core.Bool.{Bool, true, false, not, _&&_, _||_}
 use mathlib.Core.List.{List, [], _∷_, _++_}
 use mathlib.Core.Logic.{⊎-elim}
-use Prim.Native.Nat.{ℕ, _+_, _^_, _≤_, _<_}
-use borrow.Author.Tests.{lt-leb, eqb-true, eq-eqb, ne-eqb}
+use Prim.Native.Nat.{ℕ, zero, suc, _-_, _%_, _^_, _≤_, _<_}
+use native.Mathlib.Omega.{arith}
+use borrow.Author.Tests.{lt-leb, le-leb, eqb-true, eq-eqb, ne-eqb}
 use lib.Dec.{ltb, leb, eqb}
 use lib.Pow.{pow-pos}
 use lib.ListN.{length, List·getD-eq-default}
@@ -12,7 +13,8 @@ use Rattle.bits.specs.Bits.{bitsIn}
 use Rattle.bits.specs.Tables.{anyBelow}
 use Rattle.bits.proofs.Runs.{lt-or-ge}
 use Rattle.bits.proofs.Fill.{length-tab, getD-tab}
-use Rattle.bits.proofs.Below.{any-none, any-next, any-ext}
+use Rattle.bits.proofs.Below.{any-ext}
+use Rattle.puts.proofs.Lists.{below-least}
 use Rattle.rules.specs.declared.{Found.Found, Bitmap.Bitmap, Bitmap.the-variants.Without, Bitmap.the-variants.Carried, Bitmap.the-variants.Stored, Form.Form, Scale.Scale}
 use Rattle.rules.specs.Table.{row, anyOf}
 use Rattle.rules.specs.Places.{hasGrid, hasBitmap}
@@ -21,15 +23,43 @@ use Rattle.rules.specs.Writing.{listsFit, storedFaults, gridGiven, pointBad, di
 use Rattle.writable.specs.Rows.{frontRows, scaleFaults, middleRows, earlyRows, pointsBad, listFaults, ownRows, zeros, marksOff, markRows}
 use Rattle.writable.specs.Listed.{Listed}
 
--- a loop over the marks: where it begins, and a turn
-pub off-none : (gaps : Bool) (marks : List ℕ) → false ≡ marksOff gaps marks 0
-unfolding marksOff
-off-none gaps marks = any-none _
+-- a mark above 1 has another bit than its last; of the others, 0 lacks that one
+off-mark : (x : ℕ) (b : Bool) → (leb 2 x || (leb 1 (1 - x % 2) && b)) ≡ (ltb 1 x || (eqb x 0 && b))
+off-mark zero b = refl
+off-mark (suc zero) b = refl
+off-mark (suc (suc x)) b = rw (le-leb 2 (suc (suc x)) (omega arith)) refl
 
-pub off-more : (gaps : Bool) (marks : List ℕ) (bad : Bool) (i : ℕ) → bad ≡ marksOff gaps marks i
-    → bad || (ltb 1 (markOf marks i) || (eqb (markOf marks i) 0 && not gaps)) ≡ marksOff gaps marks (i + 1)
-unfolding marksOff
-off-more gaps marks bad i e = any-next (λ i. ltb 1 (markOf marks i) || (eqb (markOf marks i) 0 && not gaps)) i bad _ e refl
+apart : (s t u v b : Bool) → ((s || t) || ((u || v) && b)) ≡ ((s || (u && b)) || (t || (v && b)))
+apart true t u v b = refl
+apart false true true v true = refl
+apart false true true v false = refl
+apart false true false v b = refl
+apart false false true v true = refl
+apart false false true true false = refl
+apart false false true false false = refl
+apart false false false v b = refl
+
+off-each : (gaps : Bool) (marks : List ℕ) (n : ℕ) → (anyBelow (λ k. leb 2 (markOf marks k)) n || (anyBelow (λ k. leb 1 (1 - markOf marks k % 2)) n && not gaps)) ≡ marksOff gaps marks n
+unfolding marksOff anyBelow
+off-each gaps marks zero = refl
+off-each gaps marks (suc n) =
+    let x = markOf marks n in
+    apart (anyBelow (λ k. leb 2 (markOf marks k)) n) (leb 2 x) (anyBelow (λ k. leb 1 (1 - markOf marks k % 2)) n) (leb 1 (1 - x % 2)) (not gaps)
+    ∙ ap₂ (λ (p q : Bool). p || q) (off-each gaps marks n) (off-mark x (not gaps))
+
+above : (i x : ℕ) (t : Bool) → ltb x (suc i) ≡ not t → ltb i x ≡ t
+above i x t e = sym (twice (ltb i x)) ∙ ap not (sym (below-least x (suc i)) ∙ e) ∙ twice t
+  where
+    twice : (y : Bool) → not (not y) ≡ y
+    twice true = refl
+    twice false = refl
+
+-- what the bits of all marks together say
+pub off-all : (gaps : Bool) (marks : List ℕ) (n all few : ℕ) → ltb all (2 ^ 1) ≡ not (anyBelow (λ k. leb (2 ^ 1) (markOf marks k)) n)
+    → ltb few (2 ^ 0) ≡ not (anyBelow (λ k. leb (2 ^ 0) (1 - markOf marks k % 2)) n) → (ltb 1 all || (ltb 0 few && not gaps)) ≡ marksOff gaps marks n
+off-all gaps marks n all few a b =
+    ap₂ (λ (x y : Bool). x || (y && not gaps)) (above 1 all (anyBelow (λ k. leb 2 (markOf marks k)) n) a) (above 0 few (anyBelow (λ k. leb 1 (1 - markOf marks k % 2)) n) b)
+    ∙ off-each gaps marks n
 
 -- 13 at a point
 or-none : (a b : Bool) → ((a || (b || false)) || false) ≡ (a || b)

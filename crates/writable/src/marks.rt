@@ -16,18 +16,20 @@ use rules::Found;
 use rules::Refusal;
 use rules::Scale;
 
-// 13, at one of the points. No branch on what stands there.
+// 13, at one of the points. No branch on what stands there: `all` has every bit that a mark has, and `gaps` is 1 once a mark lacks its last.
 pub(crate) fn marks_off(bitmap: bool, marks: &[u8]) -> bool
     ensures { λ r. ⌜ r ≡ marksOff bitmap (now (marks .entry)) (length (now (marks .entry))) ⌝ }
 {
-    let mut bad = false;
+    let mut all: u8 = 0;
+    let mut gaps: u8 = 0;
     let mut i: usize = 0;
     while i < marks.len() {
         let mark = marks[i];
-        bad = bad | ((1 < mark) | ((mark == 0) & !bitmap));
+        all = all | mark;
+        gaps = gaps | (1 - mark % 2);
         i += 1;
     }
-    bad
+    (1 < all) | ((0 < gaps) & !bitmap)
 }
 
 // 13.

@@ -25,7 +25,7 @@ loop-again : tie.Need-loop-again Inv-loop μ-loop
 loop-again c =
     let l = c .before .before .loop in
     let a = c .before .before .before .before .args in
-    (omega arith, below-turn (a .n) (a .vs .now) (l .i) (l .all) (l .inv .1))
+    (omega arith, below-turn (a .n) (λ k. getD (a .vs .now) k 0) (l .i) (l .all) (l .inv .1))
 
 returns : tie.Need-returns Inv-loop μ-loop
 unfolding allBelow
