@@ -3,3 +3,4 @@ pub mod Agreement
 pub mod Present
 pub mod Rows
 pub mod Stages
+pub mod Plain

@@ -1,5 +1,5 @@
-// Refusals 18, 15, 16 and 17 of a message whose own refusals, 1 to 12, have passed. The points are walked once, and the first that applies is
-// chosen after it.
+// Refusals 18, 15, 16 and 17 of a message whose own refusals, 1 to 12, have passed. All points are judged, and the first that applies is
+// chosen after.
 ghost use mathlib.Core.Path.{_≡_};
 ghost use Rattle.rules.specs.Table.{firstOr, refusal};
 ghost use Rattle.rules.specs.Reading.{headerOf};
@@ -14,7 +14,7 @@ use rules::bounds::POINTS_MOST;
 use source::decimal_differs;
 use source::whole_of;
 
-// Of R and E that 16 refuses, 0 stands for the walk.
+// Of R and E that 16 refuses, 0 stands for the points.
 pub(crate) fn judge(
     s: &[u8],
     number: u16,

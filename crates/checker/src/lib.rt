@@ -1,10 +1,10 @@
-// The check of a message against its source field. Refusals 1 to 12 are the message's own; then 18, 15, 16 and 17, from one walk over the
-// message's points and the source. Total, and linear in the points.
+// The check of a message against its source field. Refusals 1 to 12 are the message's own; then 18, 15, 16 and 17, of the message's
+// points and the source. Total, and linear in the points.
 ghost use mathlib.Core.Path.{_≡_};
 ghost use Rattle.rules.specs.Checking.{checkOf};
 
 mod judging; // judging.rt: refusals 18, 15, 16 and 17 of a message that is taken
-mod points; // points.rt: the one walk over the points
+mod points; // points.rt: the points, judged and compared
 mod steps; // steps.rt: refusal 16, and 17's distance of a point
 
 use judging::judge;

@@ -1,12 +1,18 @@
-// The one walk over the points: the source's marks and numbers are judged (18), its marks compared with the message's (15), and each present
-// number with what the message says of it (17). Without a branch: an absent point's X is fetched too, and counts for nothing.
+// The points: the source's marks and numbers are judged (18), its marks compared with the message's (15), and each present number with what the
+// message says of it (17). One walk, without a branch: an absent point's X is fetched too, and counts for nothing. Where there is no bitmap and
+// every mark is 1, each in a loop of its own, the X taken many at a time.
 ghost use mathlib.Core.Path.{_≡_};
-ghost use mathlib.Core.Bool.{cond};
-ghost use Prim.Native.Nat.{_^_, _<_, _≤_};
-ghost use lib.ListN.{length};
+ghost use mathlib.Core.Bool.{cond, not, false};
+ghost use Prim.Native.Nat.{_+_, _*_, _^_, _<_, _≤_};
+ghost use lib.Dec.{eqb};
+ghost use lib.IntN.{pos};
+ghost use lib.ListN.{length, getD};
+ghost use Rattle.bits.specs.Bits.{bitsIn, run};
+ghost use Rattle.bits.specs.Tables.{anyBelow};
 ghost use Rattle.rules.specs.Bounds.{pointsMost, sourceMost, bitsMost, stepMost};
 ghost use Rattle.rules.specs.Numbers.{beyond};
-ghost use Rattle.rules.specs.Bitmap.{presentBy, bitmapOctets, inForce};
+ghost use Rattle.rules.specs.Bitmap.{markOf, presentBy, bitmapOctets, inForce};
+ghost use Rattle.rules.specs.Checking.{farFrom};
 ghost use Rattle.checker.specs.Points.{Seen, markIn, out as isOut};
 use crate::steps::far;
 use octets::octet;
@@ -14,6 +20,7 @@ use rules::Bitmap;
 use rules::Part;
 use rules::bounds::SOURCE_MOST;
 use runs::fetch;
+use runs::unpack;
 
 // Whether there is a point whose mark is not 0 or 1, a present one whose number is outside its bound, one whose mark is not the message's, and
 // a present one that is out by more than half a step.
@@ -91,6 +98,92 @@ fn walk(
     }
 }
 
+fn all_present(marks: &[u8]) -> bool
+    ensures { λ q. ⌜ q ≡ not (anyBelow (λ i. not (eqb (markOf (now (marks .entry)) i) 1)) (length (now (marks .entry)))) ⌝ }
+{
+    let mut gap = false;
+    let mut i: usize = 0;
+    while i < marks.len() {
+        gap = gap | !(marks[i] == 1);
+        i += 1;
+    }
+    !gap
+}
+
+fn any_large(numbers: &[i32]) -> bool
+    ensures { λ q. ⌜ q ≡ anyBelow (λ i. beyond sourceMost (getD (now (numbers .entry)) i (pos 0))) (length (now (numbers .entry))) ⌝ }
+{
+    let mut bad = false;
+    let mut i: usize = 0;
+    while i < numbers.len() {
+        bad = bad | large(numbers[i]);
+        i += 1;
+    }
+    bad
+}
+
+// How many X are taken at once, at most.
+const HELD: usize = 256;
+
+// How many are, of those left.
+fn next_few(left: usize) -> usize
+    ensures { λ c. ⌜ (c ≤ left) × ((c ≤ 256) × (0 < left → 0 < c)) ⌝ }
+{
+    if left < HELD {
+        return left;
+    }
+    HELD
+}
+
+// Whether one of the c points from point p on is out, the X being those held.
+fn few_far(numbers: &[i32], p: usize, held: &[u32], c: usize, r: i32, e: u32) -> bool
+    requires { ⌜ (e ≤ stepMost) × ((p + c ≤ length (now numbers)) × (c ≤ length (now held))) ⌝ }
+    ensures { λ q. ⌜ q ≡ anyBelow (λ j. farFrom (getD (now (numbers .entry)) (p + j) (pos 0)) r (getD (now (held .entry)) j 0) e) c ⌝ }
+{
+    let mut out = false;
+    let mut j: usize = 0;
+    while j < c {
+        out = out | far(numbers[p + j], r, held[j], e);
+        j += 1;
+    }
+    out
+}
+
+// The same of all points, each of which is present.
+fn any_far(s: &[u8], numbers: &[i32], from: u32, n: u8, r: i32, e: u32) -> bool
+    requires { ⌜ (e ≤ stepMost) × ((n ≤ bitsMost) × (from < 2 ^ 31)) ⌝ }
+    requires { ⌜ length (now numbers) ≤ pointsMost ⌝ }
+    ensures { λ q. ⌜ q ≡ anyBelow (λ i. farFrom (getD (now (numbers .entry)) i (pos 0)) r (run (bitsIn 8 (now (s .entry))) (from + i * n) n) e) (length (now (numbers .entry))) ⌝ }
+{
+    let mut held = [0u32; HELD];
+    let mut out = false;
+    let mut i: usize = 0;
+    while i < numbers.len() {
+        let c = next_few(numbers.len() - i);
+        unpack(s, from + i as u32 * n as u32, n, &mut held, c as u32);
+        out = out | few_far(numbers, i, &held, c, r, e);
+        i += c;
+    }
+    out
+}
+
+// The same as the walk, where there is no bitmap.
+fn plain(s: &[u8], numbers: &[i32], marks: &[u8], from: u32, n: u8, r: i32, e: u32) -> Found
+    requires { ⌜ (e ≤ stepMost) × ((n ≤ bitsMost) × (from < 2 ^ 31)) ⌝ }
+    requires { ⌜ (length (now numbers) ≡ length (now marks)) × (length (now numbers) ≤ pointsMost) ⌝ }
+    ensures { λ q. ⌜ Seen (now (numbers .entry)) (now (marks .entry)) (markIn (now (s .entry)) 0 false) (isOut (now (s .entry)) (now (numbers .entry)) (now (marks .entry)) from n r e) (length (now (numbers .entry))) (q .odd) (q .large) (q .unlike) (q .out) ⌝ }
+{
+    if all_present(marks) {
+        return Found {
+            odd: false,
+            large: any_large(numbers),
+            unlike: false,
+            out: any_far(s, numbers, from, n, r, e),
+        };
+    }
+    walk(s, s, 0, false, numbers, marks, from, n, r, e)
+}
+
 // The same, with the message's marks by the kind of its bitmap.
 pub(crate) fn survey(
     s: &[u8],
@@ -109,7 +202,7 @@ pub(crate) fn survey(
     ensures { λ q. ⌜ Seen (now (numbers .entry)) (now (marks .entry)) (presentBy bitmap (bitmapOctets (now (s .entry)) (now (store .entry)) (inForce bitmap bms (length (now (numbers .entry)))))) (isOut (now (s .entry)) (now (numbers .entry)) (now (marks .entry)) from n r e) (length (now (numbers .entry))) (q .odd) (q .large) (q .unlike) (q .out) ⌝ }
 {
     match bitmap {
-        Bitmap::Without => walk(s, s, 0, false, numbers, marks, from, n, r, e),
+        Bitmap::Without => plain(s, numbers, marks, from, n, r, e),
         Bitmap::Carried => walk(
             s,
             s,
