@@ -11,7 +11,7 @@ use lib.ListN.{length, take, drop}
 use lib.Ieee.{binary64, ofBits}
 use lib.Ieee.Exact.{HasValue}
 use Rattle.bits.specs.Bits.{bitsIn, run, count}
-use Rattle.rules.specs.declared.{GridPoint.GridPoint, Spot.Spot, Charted.the-variants.On, Pointed.the-variants.At}
+use Rattle.rules.specs.declared.{Header.Header, GridPoint.GridPoint, Spot.Spot, Charted.the-variants.On, Pointed.the-variants.At}
 use Rattle.rules.specs.Bounds.{pdsLeast, gdsLeast, bmsLeast, bdsLeast}
 use Rattle.rules.specs.Numbers.{joined, decimalAt}
 use Rattle.rules.specs.Table.{refusal, accepted}
@@ -50,18 +50,21 @@ ReadsInside = (s : List ℕ) (lent : Lent) → Taken s lent → Inside s
 abbrev pub BitmapInside : Type 0
 BitmapInside = (s : List ℕ) (lent : Lent) → Taken s lent → after (inForceIn s .part) ≤ length (cond (inForceIn s .stored) (lent .octets) s)
 
--- of a point: "A present grid point's data number is the count of ones before it in the bitmap", its value stands among the data by that number, inside the data section;
--- "An absent point has none", and "0 and 0 at absent points"
-pub record ReadAt (s : List ℕ) (lent : Lent) (values marks : List ℕ) (i : ℕ) : Type 0 where
+-- of a point, where reading left these lists: "A present grid point's data number is the count of ones before it in the bitmap", its value stands among the data by that number,
+-- inside the data section; "An absent point has none", and "0 and 0 at absent points"
+pub record LeftAt (s : List ℕ) (lent : Lent) (values marks : List ℕ) (i : ℕ) : Type 0 where
   pub bit : presentIn s lent i < 2
-  pub mark : markOf (marksAfter s lent values marks) i ≡ presentIn s lent i
+  pub mark : markOf marks i ≡ presentIn s lent i
   pub here : presentIn s lent i ≡ 1
       → let k = count (presentIn s lent) 0 i in let bits = packingIn s .bits in
       (numberingOf s lent i ≡ numbered k)
       × (k < presentCount s lent)
       × (k * bits + bits ≤ 8 * (placesOf s .bds .len - 11))
-      × (valueOf (valuesAfter s lent values marks) i ≡ run (bitsIn 8 s) ((placesOf s .bds .start + 11) * 8 + k * bits) bits)
-  pub away : presentIn s lent i ≡ 0 → (numberingOf s lent i ≡ absent) × (valueOf (valuesAfter s lent values marks) i ≡ 0)
+      × (valueOf values i ≡ run (bitsIn 8 s) ((placesOf s .bds .start + 11) * 8 + k * bits) bits)
+  pub away : presentIn s lent i ≡ 0 → (numberingOf s lent i ≡ absent) × (valueOf values i ≡ 0)
+
+abbrev pub ReadAt : List ℕ → Lent → List ℕ → List ℕ → ℕ → Type 0
+ReadAt s lent values marks i = LeftAt s lent (valuesAfter s lent values marks) (marksAfter s lent values marks) i
 
 abbrev pub ValueAtPoint : Type 0
 ValueAtPoint = (s : List ℕ) (lent : Lent) (values marks : List ℕ) → T (accepted (readRefusal s lent values marks)) → (i : ℕ) → i < pointsIn s → ReadAt s lent values marks i
@@ -71,20 +74,23 @@ abbrev pub ReadKeeps : Type 0
 ReadKeeps = (s : List ℕ) (lent : Lent) (values marks : List ℕ) → T (accepted (readRefusal s lent values marks))
     → (drop (pointsIn s) (valuesAfter s lent values marks) ≡ drop (pointsIn s) values) × (drop (pointsIn s) (marksAfter s lent values marks) ≡ drop (pointsIn s) marks)
 
--- "packed integers, present points, scales": what reading into lent lists hands out of a message is the parts w, field by field
-pub record Tells (s : List ℕ) (lent : Lent) (values marks : List ℕ) (w : Parts) : Type 0 where
-  pub refusal : readOf s lent values marks .refusal ≡ refusal 0
-  pub pds : octetsOf s (readOf s lent values marks .places .pds) ≡ w .pds
-  pub time : readOf s lent values marks .time ≡ momentAt (w .pds) 0
-  pub d : readOf s lent values marks .d ≡ decimalAt (w .pds) 0
-  pub grid : readOf s lent values marks .grid ≡ theGrid (gridFor w)
-  pub points : readOf s lent values marks .points ≡ pointsFor w
-  pub bitmap : readOf s lent values marks .bitmap ≡ w .form .bitmap
-  pub present : readOf s lent values marks .present ≡ count (markOf (w .marks)) 0 (pointsFor w)
-  pub packing : readOf s lent values marks .packing ≡ w .form .packing
-  pub scale : readOf s lent values marks .scale ≡ w .scale
-  pub each : take (pointsFor w) (valuesAfter s lent values marks) ≡ w .values
-  pub which : take (pointsFor w) (marksAfter s lent values marks) ≡ w .marks
+-- "packed integers, present points, scales": what is handed out of a message, a header and two lists as reading left them, is the parts w, field by field
+pub record Told (s : List ℕ) (h : Header) (values marks : List ℕ) (w : Parts) : Type 0 where
+  pub refusal : h .refusal ≡ refusal 0
+  pub pds : octetsOf s (h .places .pds) ≡ w .pds
+  pub time : h .time ≡ momentAt (w .pds) 0
+  pub d : h .d ≡ decimalAt (w .pds) 0
+  pub grid : h .grid ≡ theGrid (gridFor w)
+  pub points : h .points ≡ pointsFor w
+  pub bitmap : h .bitmap ≡ w .form .bitmap
+  pub present : h .present ≡ count (markOf (w .marks)) 0 (pointsFor w)
+  pub packing : h .packing ≡ w .form .packing
+  pub scale : h .scale ≡ w .scale
+  pub each : take (pointsFor w) values ≡ w .values
+  pub which : take (pointsFor w) marks ≡ w .marks
+
+abbrev pub Tells : List ℕ → Lent → List ℕ → List ℕ → Parts → Type 0
+Tells s lent values marks w = Told s (readOf s lent values marks) (valuesAfter s lent values marks) (marksAfter s lent values marks) w
 
 -- of any taken message, with room for its points: the parts by which the round trips speak of it
 abbrev pub ReadTells : Type 0
