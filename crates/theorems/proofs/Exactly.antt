@@ -15,11 +15,12 @@ use Rattle.rules.specs.Grid.{gridAt}
 use Rattle.rules.specs.Bitmap.{Lent, bitmapAt}
 use Rattle.rules.specs.Values.{scaleAt}
 use Rattle.rules.specs.Reading.{gridIn, bitmapIn, scaleIn}
-use Rattle.rules.specs.Writing.{Parts, pointsFor, message, writeRefusal}
+use Rattle.rules.specs.Writing.{Parts, pointsFor, message, writeRefusal, writeOf, outputAfter}
 use Rattle.rules.specs.RoundTrip.{partsIn, minusZero, bitmapPaddingSet, dataPaddingSet, canonical}
 use Rattle.theorems.specs.Reads.{Taken}
-use Rattle.theorems.specs.Returns.{Below, GridFits, NumberFits, WriteAfterReadExactly}
+use Rattle.theorems.specs.Returns.{Below, GridFits, NumberFits, WriteAfterReadExactly, WrittenCanonical}
 use Rattle.theorems.proofs.Rows.{true-is}
+use Rattle.theorems.proofs.Replies.{handed-is}
 use Rattle.theorems.proofs.GridSection.{GridClean, found-clean}
 use Rattle.theorems.proofs.BitmapSection.{map-clean}
 use Rattle.theorems.proofs.DataSection.{scale-clean, data-clean}
@@ -49,6 +50,12 @@ module _ (w : Parts) (out : List ℕ) (gf : GridFits (w .form .grid)) (nf : Numb
         scale = (λ i. minusZero s (at i .bds .start) 5 6) ∙ scale-clean s _ (w .form .packing) (w .scale) (packedFor w) _ d o;
         padding = (λ i. dataPaddingSet s (at i .bds .start) (at i .bds .len) (m i * p i .bits)) ∙ data-clean s _ (w .form .packing) (w .scale) (packedFor w) _ d o;
       }
+
+pub written-canonical : WrittenCanonical
+unfolding writeOf outputAfter
+written-canonical w out gf nf rf acc =
+    subst (λ (s : List ℕ). T (canonical s (w .lent))) (sym (handed-is (writeRefusal w out) (message w) out acc))
+    (true-is _ (clean-canonical (message w) (w .lent) (written-clean w out gf nf rf acc)))
 
 -- what is read of octets fits the fields
 grid-fits : (b : Bool) (s : List ℕ) (k : ℕ) → Below 256 s → GridFits (cond b (Given (gridAt s k)) Nothing)

@@ -1,20 +1,22 @@
--- Demand 2: the sections of a taken message tile it, and each has the octets of its fields; from row 5, which says that each section starts where the one before ends.
-use Prim.Native.Nat.{ℕ, _+_, _-_, _%_, _≤_}
+-- Demand 2: the sections of a taken message tile it, as they lie and as they are handed out, and each has the octets of its fields; from row 5, which says that each section starts where the one before ends.
+use Prim.Native.Nat.{ℕ, _+_, _-_, _%_, _≤_, _<_}
 use mathlib.Core.Bool.{Bool, true, false, _&&_, cond}
 use mathlib.Core.Path.{_≡_, refl, sym, subst, _∙_, ap}
-use mathlib.Core.List.{List, [], _++_, append-nil}
+use mathlib.Core.List.{List, [], _∷_, _++_, append-nil}
 use native.Mathlib.Omega.{arith}
-use borrow.Author.Tests.{ltb-false, eqb-false}
-use lib.ListN.{length, take, drop, length-drop}
+use borrow.Author.Tests.{ltb-false, eqb-true, eqb-false}
+use lib.Dec.{eqb}
+use lib.ListN.{length, getD, take, drop, length-drop, List·getD-eq-default}
 use lib.Seq.{take-all}
 use Rattle.bits.proofs.Cut.{cut}
 use Rattle.rules.specs.declared.{Part.Part}
 use Rattle.rules.specs.Bounds.{messageMost, pdsLeast, pdsMost, gdsLeast, bmsLeast, bdsLeast}
 use Rattle.rules.specs.Numbers.{number, joined}
-use Rattle.rules.specs.Table.{anyOf}
-use Rattle.rules.specs.Places.{after, endStart, pdsStart, hasGrid, hasBitmap, sizeBad, sectionFaults, placesFaults, placesOf, sectionsOf, sectionAt}
+use Rattle.rules.specs.Table.{accepted, anyOf}
+use Rattle.rules.specs.Places.{octetsOf, noPart, after, endStart, pdsStart, hasGrid, hasBitmap, sizeBad, sectionFaults, placesFaults, placesOf, sectionsOf, sectionAt}
 use Rattle.rules.specs.Bitmap.{Lent}
-use Rattle.theorems.specs.Reads.{Taken, SectionsTile, ReadsInside}
+use Rattle.rules.specs.Reading.{ownRefusal, sectionOf}
+use Rattle.theorems.specs.Reads.{Taken, SectionsTile, HandedBack, SectionsHanded, RefusedHasNone, ReadsInside}
 use Rattle.theorems.proofs.Rows.{none-of, clash, is-true, is-eq, inside}
 use Rattle.theorems.proofs.Judged.{judged}
 
@@ -92,3 +94,53 @@ six s a b c d e =
 pub sections-tile : SectionsTile
 unfolding sectionsOf placesOf sectionAt joined
 sections-tile s lent t = six s _ _ _ _ (sections s lent t .end)
+
+-- a part of no octets, wherever it starts, has the octets of the empty part at the start
+none-or : (s : List ℕ) (p : Part) → octetsOf s (cond (eqb (p .len) 0) noPart p) ≡ octetsOf s p
+none-or s p = go (eqb (p .len) 0) refl
+  where
+    go : (b : Bool) → eqb (p .len) 0 ≡ b → octetsOf s (cond b noPart p) ≡ octetsOf s p
+    go true e = ap (λ (k : ℕ). take k (drop (p .start) s)) (sym (eqb-true (p .len) 0 e))
+    go false e = refl
+
+module _ (s : List ℕ) (lent : Lent) (t : Taken s lent) where
+  abbrev lies : ℕ → Part
+  lies k = getD (sectionsOf s) k noPart
+
+  handed : (k : ℕ) → sectionOf s lent k ≡ cond (eqb (lies k .len) 0) noPart (lies k)
+  unfolding sectionOf
+  handed k = ap (λ (b : Bool). cond b (cond (eqb (lies k .len) 0) noPart (lies k)) noPart) (is-true (accepted (ownRefusal s lent)) t)
+
+  handed-octets : (k : ℕ) → octetsOf s (sectionOf s lent k) ≡ octetsOf s (lies k)
+  handed-octets k = ap (octetsOf s) (handed k) ∙ none-or s (lies k)
+
+  handed-none : (k : ℕ) → lies k .len ≡ 0 → sectionOf s lent k ≡ noPart
+  handed-none k e = handed k ∙ ap (λ (x : ℕ). cond (eqb x 0) noPart (lies k)) e
+
+  absent-len : (b : Bool) (n : ℕ) → b ≡ false → cond b n 0 ≡ 0
+  absent-len b n e = ap (λ (x : Bool). cond x n 0) e
+
+  -- no list of six has a seventh
+  past : (k : ℕ) → 5 < k → lies k ≡ noPart
+  unfolding sectionsOf
+  past k l = List·getD-eq-default (sectionsOf s) noPart {n = k} l
+
+  handed-back : HandedBack s lent
+  unfolding sectionsOf placesOf sectionAt
+  handed-back = record {
+    tile =
+        (λ i. joined (handed-octets 0 i ∷ handed-octets 1 i ∷ handed-octets 2 i ∷ handed-octets 3 i ∷ handed-octets 4 i ∷ handed-octets 5 i ∷ []))
+        ∙ sections-tile s lent t;
+    gds = λ e. handed-none 2 (absent-len (hasGrid s pdsStart) _ e);
+    bms = λ e. handed-none 3 (absent-len (hasBitmap s pdsStart) _ e);
+    other = λ k l. handed-none k (ap (λ (p : Part). p .len) (past k l));
+  }
+
+pub sections-handed : SectionsHanded
+sections-handed s lent t = handed-back s lent t
+
+pub refused-has-none : RefusedHasNone
+unfolding sectionOf
+refused-has-none s lent k e =
+    let p = getD (sectionsOf s) k noPart in
+    ap (λ (b : Bool). cond b (cond (eqb (p .len) 0) noPart p) noPart) e

@@ -2,6 +2,7 @@
 use Prim.Native.Nat.{ℕ, _*_, _^_, _<_, _≤_}
 use mathlib.Core.Path.{_≡_}
 use mathlib.Core.Logic.{_↔_}
+use mathlib.Core.Bool.{false}
 use mathlib.Core.List.{List}
 use lib.Dec.{T}
 use lib.IntN.{ℤ, pos, natAbs, _+ℤ_, _-ℤ_}
@@ -9,11 +10,11 @@ use lib.ListN.{length}
 use Rattle.rules.specs.declared.{Scale.Scale, Form.Form}
 use Rattle.rules.specs.Bounds.{pointsMost, sourceMost, stepMost, flatSpread}
 use Rattle.rules.specs.Numbers.{decimalAt}
-use Rattle.rules.specs.Table.{refusal, accepted}
+use Rattle.rules.specs.Table.{refusal, accepted, anyOf}
 use Rattle.rules.specs.Bitmap.{Lent, valueOf}
-use Rattle.rules.specs.Values.{bOf, sizeOf, unit, wholeOf}
+use Rattle.rules.specs.Values.{packingFaults, bOf, sizeOf, unit, wholeOf}
 use Rattle.rules.specs.Reading.{pointsIn, presentIn, valuesIn, scaleIn, decimalIn}
-use Rattle.rules.specs.Writing.{writeRefusal}
+use Rattle.rules.specs.Writing.{pdsFaults, writeRefusal}
 use Rattle.rules.specs.Checking.{Source, numberOf, presentOf, checkOf}
 use Rattle.rules.specs.Packing.{spellingOf, reference, above, stepped, exponent, packed, packRefusal, packOf, packedAfter}
 use Rattle.theorems.specs.Reads.{Taken}
@@ -113,6 +114,18 @@ Fits f bits e = AtPresent f (λ i. stepped e (above f i) < 2 ^ bits)
 abbrev pub LeastStep : Type 0
 LeastStep = (f : Source) (bits e : ℕ) → e ≤ stepMost → (exponent f bits ≡ e) ↔ (Fits f bits e × ((k : ℕ) → k < e → Fits f bits k → ⊥))
 
--- "For N = 0, 19 is given exactly when the spread is 8,388,608 or more"; for another N never
+-- no E from 0 to 24 fits exactly when N = 0 and "the spread is 8,388,608 or more"
 abbrev pub NoStepFits : Type 0
 NoStepFits = (f : Source) (bits : ℕ) → WellFormed f → (stepMost < exponent f bits) ↔ ((bits ≡ 0) × SomePresent f (λ i. flatSpread ≤ above f i))
+
+-- "For N = 0, 19 is given exactly when the spread is 8,388,608 or more", where the packer's rows above 19 pass; for another N never
+pub record NothingFits (pds : List ℕ) (form : Form) (f : Source) : Type 0 where
+  pub pds-passes : anyOf (pdsFaults pds) ≡ false
+  pub source : WellFormed f
+  pub decimal : decimalAt pds 0 .value ≡ f .d
+  pub packing : anyOf (packingFaults (form .packing)) ≡ false
+  pub flat : form .packing .bits ≡ 0
+  pub spread : SomePresent f (λ i. flatSpread ≤ above f i)
+
+abbrev pub NoStepReply : Type 0
+NoStepReply = (pds : List ℕ) (form : Form) (lent : Lent) (f : Source) (out : List ℕ) → (packRefusal pds form lent f out ≡ refusal 19) ↔ NothingFits pds form f

@@ -4,25 +4,25 @@ use Prim.Native.Nat.{ℕ, _+_, _-_, _*_, _^_, _<_, _≤_}
 use mathlib.Core.Path.{_≡_}
 use mathlib.Core.Logic.{_↔_}
 use mathlib.Core.Bool.{false, cond}
-use mathlib.Core.List.{List, map}
+use mathlib.Core.List.{List, [], _∷_, map}
 use lib.Dec.{T, eqb}
 use lib.IntN.{pos, negsuc}
 use lib.ListN.{length, take, drop}
 use lib.Ieee.{binary64, ofBits}
 use lib.Ieee.Exact.{HasValue}
 use Rattle.bits.specs.Bits.{bitsIn, run, count}
-use Rattle.rules.specs.declared.{Header.Header, GridPoint.GridPoint, Spot.Spot, Charted.the-variants.On, Pointed.the-variants.At}
+use Rattle.rules.specs.declared.{Header.Header, Bitmap.the-variants.Without, GridPoint.GridPoint, Spot.Spot, Charted.the-variants.On, Pointed.the-variants.At}
 use Rattle.rules.specs.Bounds.{pdsLeast, gdsLeast, bmsLeast, bdsLeast}
 use Rattle.rules.specs.Numbers.{joined, decimalAt}
 use Rattle.rules.specs.Table.{refusal, accepted}
-use Rattle.rules.specs.Places.{octetsOf, after, pdsStart, hasGrid, hasBitmap, placesOf, sectionsOf}
+use Rattle.rules.specs.Places.{octetsOf, noPart, after, pdsStart, hasGrid, hasBitmap, placesOf, sectionsOf}
 use Rattle.rules.specs.Time.{momentAt}
 use Rattle.rules.specs.Grid.{theGrid}
 use Rattle.rules.specs.Chart.{west, north, byColumn, spotOf, pointOf, charted, pointed}
 use Rattle.rules.specs.Bitmap.{Lent, markOf, valueOf}
 use Rattle.rules.specs.Points.{numbered, absent}
 use Rattle.rules.specs.Values.{sOf, bOf, sizeOf, unit}
-use Rattle.rules.specs.Reading.{ownRefusal, inForceIn, pointsIn, presentIn, presentCount, packingIn, headerOf, readRefusal, readOf, valuesAfter, marksAfter, numberingOf}
+use Rattle.rules.specs.Reading.{ownRefusal, bitmapIn, inForceIn, pointsIn, presentIn, presentCount, packingIn, headerOf, readRefusal, readOf, valuesAfter, marksAfter, sectionOf, numberingOf}
 use Rattle.rules.specs.Writing.{Parts, gridFor, pointsFor}
 use Rattle.rules.specs.RoundTrip.{partsIn}
 use Rattle.rules.specs.Display.{shownReference, shownStep}
@@ -34,6 +34,20 @@ Taken s lent = T (accepted (ownRefusal s lent))
 -- "sections that tile the message"
 abbrev pub SectionsTile : Type 0
 SectionsTile = (s : List ℕ) (lent : Lent) → Taken s lent → joined (map (octetsOf s) (sectionsOf s)) ≡ s
+
+-- and so do the parts that "asking for section 0 to 5" hands back; "an absent section, another number .. gives the empty part at its start"
+pub record HandedBack (s : List ℕ) (lent : Lent) : Type 0 where
+  pub tile : joined (map (λ k. octetsOf s (sectionOf s lent k)) (0 ∷ 1 ∷ 2 ∷ 3 ∷ 4 ∷ 5 ∷ [])) ≡ s
+  pub gds : hasGrid s pdsStart ≡ false → sectionOf s lent 2 ≡ noPart
+  pub bms : hasBitmap s pdsStart ≡ false → sectionOf s lent 3 ≡ noPart
+  pub other : (k : ℕ) → 5 < k → sectionOf s lent k ≡ noPart
+
+abbrev pub SectionsHanded : Type 0
+SectionsHanded = (s : List ℕ) (lent : Lent) → Taken s lent → HandedBack s lent
+
+-- "or a message that 1 to 12 refuse"
+abbrev pub RefusedHasNone : Type 0
+RefusedHasNone = (s : List ℕ) (lent : Lent) (k : ℕ) → accepted (ownRefusal s lent) ≡ false → sectionOf s lent k ≡ noPart
 
 -- every fixed field of a taken message lies in its section: no answer leans on the 0 past the end, nor on a difference cut at 0
 pub record Inside (s : List ℕ) : Type 0 where
@@ -68,6 +82,10 @@ ReadAt s lent values marks i = LeftAt s lent (valuesAfter s lent values marks) (
 
 abbrev pub ValueAtPoint : Type 0
 ValueAtPoint = (s : List ℕ) (lent : Lent) (values marks : List ℕ) → T (accepted (readRefusal s lent values marks)) → (i : ℕ) → i < pointsIn s → ReadAt s lent values marks i
+
+-- "or its own number where there is no bitmap"
+abbrev pub OwnNumber : Type 0
+OwnNumber = (s : List ℕ) (lent : Lent) → Taken s lent → bitmapIn s ≡ Without → (i : ℕ) → i < pointsIn s → numberingOf s lent i ≡ numbered i
 
 -- "elements after n stay"
 abbrev pub ReadKeeps : Type 0

@@ -53,13 +53,22 @@ WriteAfterRead =
 abbrev pub WriteAfterReadExactly : Type 0
 WriteAfterReadExactly = (s : List ℕ) (lent : Lent) → Below 256 s → Taken s lent → T (canonical s lent) ↔ (message (partsIn s lent) ≡ s)
 
--- and none of the conditions can be left out: for each there is a message that is taken, breaks that one alone, and does not come back
+-- "29-32 reserved, .. written zero", "Padding bits are .. written zero", minus zero "is written as plus zero": whatever is written has none of the stains.
+-- (Of D, in the PDS given, and of R the octets are written as given; `stains` speaks of neither)
+abbrev pub WrittenCanonical : Type 0
+WrittenCanonical =
+    (w : Parts) (out : List ℕ) → GridFits (w .form .grid) → NumberFits (w .form .bitmap) → w .scale .r < 2 ^ 32
+    → T (accepted (writeRefusal w out))
+    → T (canonical (handed (writeOf w out) (outputAfter w out)) (w .lent))
+
+-- and none of the conditions can be left out: for each there is a message of octets that is taken, breaks that one alone, and does not come back
 abbrev pub only : ℕ → List Bool
 only k = eqb k 0 ∷ eqb k 1 ∷ eqb k 2 ∷ eqb k 3 ∷ eqb k 4 ∷ eqb k 5 ∷ eqb k 6 ∷ eqb k 7 ∷ []
 
 pub record Stained (k : ℕ) : Type 0 where
   pub s : List ℕ
   pub lent : Lent
+  pub octets : Below 256 s
   pub taken : Taken s lent
   pub alone : stains s lent ≡ only k
   pub lost : message (partsIn s lent) ≡ s → ⊥
