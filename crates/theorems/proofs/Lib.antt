@@ -35,3 +35,4 @@ pub mod Spelled
 pub mod Steps
 pub mod Checked
 pub mod Packs
+pub mod PackReplies

@@ -2,9 +2,9 @@
 use Prim.Native.Nat.{ℕ, _<_}
 use mathlib.Core.Path.{_≡_}
 use mathlib.Core.Logic.{_⊎_}
-use mathlib.Core.Bool.{true, false}
+use mathlib.Core.Bool.{true, false, cond}
 use mathlib.Core.List.{List, [], _∷_, _++_}
-use lib.Dec.{T}
+use lib.Dec.{T, eqb}
 use lib.ListN.{length, take, drop}
 use Rattle.rules.specs.declared.{Refusal.Refusal, Form.Form}
 use Rattle.rules.specs.Table.{Row, given, refusal, accepted, first, filled}
@@ -13,7 +13,7 @@ use Rattle.rules.specs.Reading.{messageTable, ownRefusal, foundIn, refusedBy, h
 use Rattle.rules.specs.Display.{displayTable}
 use Rattle.rules.specs.Writing.{Parts, writeTable, lengthOf}
 use Rattle.rules.specs.Checking.{Source, checkTable}
-use Rattle.rules.specs.Packing.{packed, packTable}
+use Rattle.rules.specs.Packing.{packed, packTable, packRefusal}
 
 -- no row of a table applies
 abbrev pub Clear : List Row → Type 0
@@ -52,6 +52,19 @@ pub record RowNumbers : Type 0 where
   pub checker : (s : List ℕ) (lent : Lent) (f : Source) → numbers (checkTable s lent f) ≡ numbers (messageTable s lent) ++ (18 ∷ 15 ∷ 16 ∷ 17 ∷ [])
   pub writer : (w : Parts) (out : List ℕ) → numbers (writeTable w out) ≡ 5 ∷ 6 ∷ 7 ∷ 9 ∷ 10 ∷ 11 ∷ 13 ∷ 14 ∷ []
   pub packer : (pds : List ℕ) (form : Form) (lent : Lent) (f : Source) (out : List ℕ) → numbers (packTable pds form lent f out) ≡ 5 ∷ 18 ∷ 15 ∷ 11 ∷ 19 ∷ numbers (writeTable (packed pds form lent f) out)
+
+-- the packer's own 5 and 11 have passed where "the rest of the writer's" are asked, so that the writer's never apply: the packer replies by a table in which each number stands once
+abbrev pub without : ℕ → List Row → List Row
+without n [] = []
+without n (given r test ∷ rows) = cond (eqb (r .number) n) (without n rows) (given r test ∷ without n rows)
+
+abbrev pub onceTable : List ℕ → Form → Lent → Source → List ℕ → List Row
+onceTable pds form lent f out = take 5 (packTable pds form lent f out) ++ without 5 (without 11 (writeTable (packed pds form lent f) out))
+
+abbrev pub PackerOnce : Type 0
+PackerOnce =
+    (pds : List ℕ) (form : Form) (lent : Lent) (f : Source) (out : List ℕ)
+    → (packRefusal pds form lent f out ≡ first (onceTable pds form lent f out)) × (numbers (onceTable pds form lent f out) ≡ 5 ∷ 18 ∷ 15 ∷ 11 ∷ 19 ∷ 6 ∷ 7 ∷ 9 ∷ 10 ∷ 13 ∷ 14 ∷ [])
 
 -- "A message is either taken whole or refused with a number", "with all counts and fields zero"
 abbrev pub TakenOrRefused : Type 0
