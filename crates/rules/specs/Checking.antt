@@ -15,7 +15,7 @@ use Rattle.rules.specs.Bitmap.{Lent, markOf, valueOf}
 use Rattle.rules.specs.Values.{unit, sizeOf, whole, wholeOf}
 use Rattle.rules.specs.Reading.{messageTable, pointsIn, presentIn, valuesIn, scaleIn, decimalIn}
 
--- "the source field, whole numbers at a stated decimal scale": V, marks and D
+-- "V is the source number, standing for Y × 10^D": V, marks and D, which document 00 calls "the source field, whole numbers at a stated decimal scale"
 pub record Source : Type 0 where
   pub numbers : List ℤ
   pub marks : List ℕ

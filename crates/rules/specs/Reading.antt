@@ -54,7 +54,7 @@ valuesIn s lent = scattered (presentIn s lent) (valuesAt s (placesOf s .bds .sta
 unfoldable pub marksIn : List ℕ → Lent → List ℕ
 marksIn s lent = tab (presentIn s lent) (pointsIn s)
 
--- rows 1 to 12 are the message's own, in three groups. Each test can be judged once those above it have passed: then none reads past its section
+-- rows 1 to 11, in three groups; 12 is joined to them in `messageTable`. Each test can be judged once those above it have passed: then none reads past its section
 unfoldable pub layoutRows : List ℕ → Places → List Row
 layoutRows s p =
     row 1 (sizeBad s)

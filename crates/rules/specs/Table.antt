@@ -26,7 +26,7 @@ anyOf (a ∷ tests) = orAll a tests
 abbrev pub row : ℕ → Bool → Row
 row n test = given (refusal n) test
 
--- "The first that applies is given"; "0 is acceptance"
+-- "The first that applies in number order is given, by reader and writer", whose rows stand in that order; the checker's and the packer's stand in their own. "0 is acceptance":
 -- what the rows give, and `below` where none applies (a `let` waits: no test below a row that applies is computed)
 unfoldable pub firstOr : List Row → Refusal → Refusal
 firstOr [] below = below

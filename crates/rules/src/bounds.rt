@@ -1,4 +1,4 @@
-// The bounds of document 01 as code, beside their meaning in specs/Bounds. They stand nowhere else.
+// The bounds of specs/Bounds as code. A range that one field alone has stands at its test.
 
 // Octets in a message.
 pub const MESSAGE_LEAST: usize = 8;
