@@ -26,6 +26,7 @@ pub mod Returned
 pub mod WriteBack
 pub mod Exactly
 pub mod Needed
+pub mod Ignored
 pub mod Shown
 -- the check and the packer
 pub mod Sources

@@ -1,5 +1,5 @@
 -- Document 00, demand 2: "Writing gives a message that reads back to the same parts", and "Reading and then writing gives the same octets when ..".
-use Prim.Native.Nat.{ℕ, _^_, _<_, _≤_}
+use Prim.Native.Nat.{ℕ, _+_, _-_, _*_, _^_, _<_, _≤_}
 use mathlib.Core.Path.{_≡_}
 use mathlib.Core.Logic.{_↔_}
 use mathlib.Core.Bool.{Bool}
@@ -7,8 +7,12 @@ use mathlib.Core.List.{List, [], _∷_}
 use lib.Dec.{T, eqb}
 use lib.ListN.{length, getD, take}
 use Rattle.rules.specs.declared.{Found.Found, Found.the-variants.Nothing, Found.the-variants.Given, Bitmap.Bitmap, Bitmap.the-variants.Without, Bitmap.the-variants.Carried, Bitmap.the-variants.Stored, Written.Written}
+use Rattle.bits.specs.Bits.{bitsIn}
+use Rattle.rules.specs.Numbers.{octet}
 use Rattle.rules.specs.Table.{accepted}
+use Rattle.rules.specs.Places.{pdsStart, hasGrid, placesOf}
 use Rattle.rules.specs.Bitmap.{Lent}
+use Rattle.rules.specs.Reading.{pointsIn, bitmapIn, presentCount, packingIn}
 use Rattle.rules.specs.Writing.{Parts, pointsFor, message, writeRefusal, writeOf, outputAfter}
 use Rattle.rules.specs.RoundTrip.{partsIn, stains, canonical}
 use Rattle.theorems.specs.Reads.{Taken, Tells}
@@ -61,7 +65,25 @@ WrittenCanonical =
     → T (accepted (writeRefusal w out))
     → T (canonical (handed (writeOf w out) (outputAfter w out)) (w .lent))
 
--- and none of the conditions can be left out: for each there is a message of octets that is taken, breaks that one alone, and does not come back
+-- "29-32 reserved, ignored on reading", "Padding bits are ignored on reading": the bit places of a message that are these
+abbrev pub Within : ℕ → ℕ → ℕ → Type 0
+Within from n i = (from ≤ i) × (i < from + n)
+
+abbrev pub dataBits : List ℕ → Lent → ℕ
+dataBits s lent = presentCount s lent * packingIn s .bits
+
+pub data Ignored (s : List ℕ) (lent : Lent) (i : ℕ) : Type 0 where
+  reserved : T (hasGrid s pdsStart) → Within ((placesOf s .gds .start + 28) * 8) 32 i → Ignored s lent i
+  bitmap : bitmapIn s ≡ Carried → Within ((placesOf s .bms .start + 6) * 8 + pointsIn s) (octet s (placesOf s .bms .start) 4) i → Ignored s lent i
+  padding : Within ((placesOf s .bds .start + 11) * 8 + dataBits s lent) (8 * (placesOf s .bds .len - 11) - dataBits s lent) i → Ignored s lent i
+
+-- whatever stands there, the message is taken and has the same parts
+abbrev pub PaddingIgnored : Type 0
+PaddingIgnored =
+    (s o : List ℕ) (lent : Lent) → Below 256 s → Below 256 o → length o ≡ length s → ((i : ℕ) → (Ignored s lent i → ⊥) → bitsIn 8 o i ≡ bitsIn 8 s i)
+    → Taken s lent → Taken o lent × (partsIn o lent ≡ partsIn s lent)
+
+-- none of the conditions of `canonical` can be left out: for each there is a message of octets that is taken, breaks that one alone, and does not come back
 abbrev pub only : ℕ → List Bool
 only k = eqb k 0 ∷ eqb k 1 ∷ eqb k 2 ∷ eqb k 3 ∷ eqb k 4 ∷ eqb k 5 ∷ eqb k 6 ∷ eqb k 7 ∷ []
 

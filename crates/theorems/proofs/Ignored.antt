@@ -1,0 +1,350 @@
+-- What is read of a message does not depend on its padding bits nor on its reserved octets: every field lies outside of them, section by section.
+use Prim.Native.Nat.{ℕ, _+_, _-_, _*_, _/_, _%_, _≤_, _<_}
+use mathlib.Core.Bool.{Bool, true, false, not, _&&_, cond}
+use mathlib.Core.Path.{_≡_, refl, sym, subst, _∙_, ap}
+use mathlib.Core.Logic.{_⊎_, inl, inr, ⊎-elim}
+use mathlib.Core.List.{List, [], _∷_}
+use native.Mathlib.Omega.{arith}
+use lib.Dec.{ltb, leb, eqb}
+use lib.ListN.{length, getD, take, drop}
+use lib.Seq.{getD-drop}
+use Rattle.bits.specs.Bits.{bitsIn, run, count, octetsFor}
+use Rattle.bits.specs.Tables.{tab}
+use Rattle.bits.proofs.Runs.{run-ext}
+use Rattle.bits.proofs.Fill.{tab-ext}
+use Rattle.bits.proofs.Trip.{runs-ext}
+use Rattle.bits.proofs.Cut.{bits-drop, bits-take, octets-here}
+use Rattle.bits.proofs.Marks.{count-same}
+use Rattle.rules.specs.declared.{Places.Places, Packing.Packing, Found.Found, Found.the-variants.Nothing, Found.the-variants.Given, Bitmap.Bitmap, Bitmap.the-variants.Without, Bitmap.the-variants.Carried, Bitmap.the-variants.Stored}
+use Rattle.rules.specs.Bounds.{messageLeast, messageMost, gdsLength}
+use Rattle.rules.specs.Numbers.{octet, number, signed, outside}
+use Rattle.rules.specs.Table.{anyOf}
+use Rattle.rules.specs.Places.{octetsOf, grib, sevens, pdsStart, endStart, hasGrid, hasBitmap, sectionAt, placesOf, sizeBad, markBad, editionBad, totalFaults, placesFaults}
+use Rattle.rules.specs.Time.{momentFaults, timeFaults}
+use Rattle.rules.specs.Grid.{gridAt, gridFrom, gridMissing, theGrid, gdsFaults, gridFaults, pointsOf}
+use Rattle.rules.specs.Bitmap.{Lent, bitmapAt, lentFaults, bitmapFaults, bitmapGiven, inForce, bitmapOctets, presentBy}
+use Rattle.rules.specs.Points.{valueAt, scattered}
+use Rattle.rules.specs.Values.{packingAt, scaleAt, packingFaults, lengthBad, valuesAt}
+use Rattle.rules.specs.Reading.{gridIn, gridOf, pointsIn, bitmapIn, inForceIn, presentIn, presentCount, packingIn, scaleIn, valuesIn, marksIn}
+use Rattle.rules.specs.RoundTrip.{partsIn}
+use Rattle.theorems.specs.Reads.{Taken}
+use Rattle.theorems.specs.Returns.{Below, Ignored, reserved, bitmap, padding, PaddingIgnored}
+use Rattle.theorems.proofs.Rows.{taken-by, none-of, is-true, is-eq}
+use Rattle.theorems.proofs.Judged.{Judged, judged, unjudged}
+use Rattle.theorems.proofs.Tiles.{Sections, sections}
+use Rattle.theorems.proofs.Fields.{one}
+use Rattle.theorems.proofs.GridSection.{from-same}
+use Rattle.theorems.proofs.Reoffered.{kind}
+
+module _ (s o : List ℕ) (lent : Lent) (ws : Below 256 s) (wo : Below 256 o) (len : length o ≡ length s) (same : (i : ℕ) → (Ignored s lent i → ⊥) → bitsIn 8 o i ≡ bitsIn 8 s i) (t : Taken s lent) where
+  at : Sections s
+  at = sections s lent t
+
+  j : Judged s lent
+  j = judged s lent t
+
+  abbrev G : ℕ
+  G = placesOf s .gds .start
+
+  abbrev M : ℕ
+  M = placesOf s .bms .start
+
+  abbrev D : ℕ
+  D = placesOf s .bds .start
+
+  abbrev end : ℕ
+  end = D + placesOf s .bds .len
+
+  abbrev n : ℕ
+  n = pointsIn s
+
+  abbrev used : ℕ
+  used = presentCount s lent * packingIn s .bits
+
+  -- where the sections end
+  grid-end : hasGrid s pdsStart ≡ true → G + 32 ≤ M
+  grid-end h = omega (arith, at .at-bms, at .gds .least h)
+
+  map-head : hasBitmap s pdsStart ≡ true → M + 6 ≤ D
+  map-head h = omega (arith, at .at-bds, at .bms .least h)
+
+  map-end : bitmapIn s ≡ Carried → (M + 6) * 8 + n + octet s M 4 ≡ D * 8
+  unfolding bitmapFaults
+  map-end e =
+      let h = none-of _ (subst (λ (m : Bitmap). anyOf (bitmapFaults s lent (placesOf s .bms) m n) ≡ false) e (j .bitmap)) in
+      let r : 8 * (placesOf s .bms .len - 6) ≡ n + octet s M 4 = is-eq _ _ (h .1 .0) in
+      omega (arith, r, at .at-bds, map-head (kind s lent t ∙ ap bitmapGiven e))
+
+  data-end : (D + 11) * 8 + used ≤ end * 8
+  unfolding lengthBad
+  data-end = omega (arith, at .bds .least refl, is-eq (8 * (placesOf s .bds .len - 11)) (used + octet s D 4 % 16) (j .length))
+
+  -- a place that is before or after each of the three is none of them
+  clear-of : (i : ℕ) → (i < (G + 28) * 8) ⊎ (M * 8 ≤ i) → (i < (M + 6) * 8 + n) ⊎ (D * 8 ≤ i) → (i < (D + 11) * 8 + used) ⊎ (end * 8 ≤ i) → Ignored s lent i → ⊥
+  clear-of i a b c (reserved g h) = ⊎-elim (λ l. omega (arith, h .0, l)) (λ l. omega (arith, h .1, l, grid-end (is-true _ g))) a
+  clear-of i a b c (bitmap e h) = ⊎-elim (λ l. omega (arith, h .0, l)) (λ l. omega (arith, h .1, l, map-end e)) b
+  clear-of i a b c (padding h) = ⊎-elim (λ l. omega (arith, h .0, l)) (λ l. omega (arith, h .1, l, data-end)) c
+
+  -- so that numbers are the same before the grid's reserved octets, in the bitmap section's head, in the data and in the end
+  front-bits : (a k : ℕ) → a + k ≤ G * 8 → run (bitsIn 8 o) a k ≡ run (bitsIn 8 s) a k
+  front-bits a k l = run-ext (bitsIn 8 o) (bitsIn 8 s) a a k (λ i q. same (a + i) (clear-of (a + i) (inl (omega arith)) (inl (omega (arith, at .at-bms))) (inl (omega (arith, at .at-bms, at .at-bds)))))
+
+  grid-bits : hasGrid s pdsStart ≡ true → (a k : ℕ) → a + k ≤ (G + 28) * 8 → run (bitsIn 8 o) a k ≡ run (bitsIn 8 s) a k
+  grid-bits h a k l =
+      run-ext (bitsIn 8 o) (bitsIn 8 s) a a k (λ i q. same (a + i) (clear-of (a + i) (inl (omega arith)) (inl (omega (arith, grid-end h))) (inl (omega (arith, grid-end h, at .at-bds)))))
+
+  map-bits : hasBitmap s pdsStart ≡ true → (a k : ℕ) → M * 8 ≤ a → a + k ≤ (M + 6) * 8 → run (bitsIn 8 o) a k ≡ run (bitsIn 8 s) a k
+  map-bits h a k m l =
+      run-ext (bitsIn 8 o) (bitsIn 8 s) a a k (λ i q. same (a + i) (clear-of (a + i) (inr (omega arith)) (inl (omega arith)) (inl (omega (arith, map-head h)))))
+
+  data-bit : (i : ℕ) → D * 8 ≤ i → i < (D + 11) * 8 + used → bitsIn 8 o i ≡ bitsIn 8 s i
+  data-bit i m l = same i (clear-of i (inr (omega (arith, at .at-bds))) (inr m) (inl l))
+
+  data-bits : (a k : ℕ) → D * 8 ≤ a → a + k ≤ (D + 11) * 8 + used → run (bitsIn 8 o) a k ≡ run (bitsIn 8 s) a k
+  data-bits a k m l = run-ext (bitsIn 8 o) (bitsIn 8 s) a a k (λ i q. data-bit (a + i) (omega arith) (omega arith))
+
+  end-bits : (a k : ℕ) → end * 8 ≤ a → run (bitsIn 8 o) a k ≡ run (bitsIn 8 s) a k
+  end-bits a k m =
+      run-ext (bitsIn 8 o) (bitsIn 8 s) a a k (λ i q. same (a + i) (clear-of (a + i) (inr (omega (arith, at .at-bds))) (inr (omega arith)) (inr (omega arith))))
+
+  -- an octet is the number in its bits
+  by-bits : (k : ℕ) → run (bitsIn 8 o) (k * 8) 8 ≡ run (bitsIn 8 s) (k * 8) 8 → getD o k 0 ≡ getD s k 0
+  by-bits k e = sym (one o wo k) ∙ e ∙ one s ws k
+
+  pds-least : 36 ≤ G
+  pds-least = omega (arith, at .at-gds, at .pds .least refl)
+
+  -- the sections lie where they lay
+  grid-there : hasGrid o pdsStart ≡ hasGrid s pdsStart
+  unfolding hasGrid
+  grid-there = ap (leb 128) (by-bits 15 (front-bits 120 8 (omega (arith, pds-least))))
+
+  bitmap-there : hasBitmap o pdsStart ≡ hasBitmap s pdsStart
+  unfolding hasBitmap
+  bitmap-there = ap (λ (x : ℕ). leb 64 (x % 128)) (by-bits 15 (front-bits 120 8 (omega (arith, pds-least))))
+
+  gated-same : (b : Bool) (x y : ℕ) → (b ≡ true → x ≡ y) → cond b x 0 ≡ cond b y 0
+  gated-same true x y h = h refl
+  gated-same false x y h = refl
+
+  pds-len : number o 8 1 3 ≡ number s 8 1 3
+  pds-len = front-bits 64 24 (omega (arith, pds-least))
+
+  gds-len : cond (hasGrid o pdsStart) (number o (8 + number o 8 1 3) 1 3) 0 ≡ placesOf s .gds .len
+  unfolding placesOf sectionAt
+  gds-len = (λ i. cond (grid-there i) (number o (8 + pds-len i) 1 3) 0) ∙ gated-same (hasGrid s pdsStart) _ _ (λ h. grid-bits h _ 24 (omega arith))
+
+  bms-len : cond (hasBitmap o pdsStart) (number o (8 + number o 8 1 3 + cond (hasGrid o pdsStart) (number o (8 + number o 8 1 3) 1 3) 0) 1 3) 0 ≡ placesOf s .bms .len
+  unfolding placesOf sectionAt
+  bms-len =
+      (λ i. cond (bitmap-there i) (number o (8 + pds-len i + gds-len i) 1 3) 0)
+      ∙ gated-same (hasBitmap s pdsStart) _ _ (λ h. map-bits h _ 24 (omega arith) (omega arith))
+
+  bds-len : (k : ℕ) → k ≡ D → number o k 1 3 ≡ number s D 1 3
+  bds-len k e = ap (λ (x : ℕ). number o x 1 3) e ∙ data-bits ((D + 0) * 8) 24 (omega arith) (omega arith)
+
+  places-same : placesOf o ≡ placesOf s
+  unfolding placesOf sectionAt
+  places-same = λ i. record {
+    pds = record { start = 8; len = pds-len i };
+    gds = record { start = 8 + pds-len i; len = gds-len i };
+    bms = record { start = 8 + pds-len i + gds-len i; len = bms-len i };
+    bds = record { start = 8 + pds-len i + gds-len i + bms-len i; len = bds-len _ (λ k. 8 + pds-len k + gds-len k + bms-len k) i };
+  }
+
+  -- the PDS
+  pds-octet : (k : ℕ) → k < 36 → getD o k 0 ≡ getD s k 0
+  pds-octet k l = by-bits k (front-bits (k * 8) 8 (omega (arith, pds-least)))
+
+  pds-same : octetsOf o (placesOf o .pds) ≡ octetsOf s (placesOf s .pds)
+  unfolding placesOf sectionAt
+  pds-same =
+      let c = number s 8 1 3 in
+      let f : ℕ → ℕ = λ i. bitsIn 8 s (64 + i) in
+      ap (λ (k : ℕ). take k (drop 8 o)) pds-len
+      ∙ sym (octets-here o 8 c f wo (omega (arith, len, at .at-gds, at .at-bms, at .at-bds, at .end)) (λ i l. sym (same (64 + i) (clear-of (64 + i)
+      (inl (omega (arith, at .at-gds))) (inl (omega (arith, at .at-gds, at .at-bms))) (inl (omega (arith, at .at-gds, at .at-bms, at .at-bds)))))))
+      ∙ octets-here s 8 c f ws (omega (arith, at .at-gds, at .at-bms, at .at-bds, at .end)) (λ i l. refl)
+
+  -- the grid
+  grid-octet : hasGrid s pdsStart ≡ true → (k : ℕ) → k < 28 → getD o (G + k) 0 ≡ getD s (G + k) 0
+  grid-octet h k l = by-bits (G + k) (grid-bits h ((G + k) * 8) 8 (omega arith))
+
+  grid-same : hasGrid s pdsStart ≡ true → gridAt o G ≡ gridAt s G
+  unfolding gridAt
+  grid-same h =
+      let at : (k c : ℕ) → k + c ≤ 28 → run (bitsIn 8 o) ((G + k) * 8) (c * 8) ≡ run (bitsIn 8 s) ((G + k) * 8) (c * 8) = λ k c l. grid-bits h ((G + k) * 8) (c * 8) (omega arith) in
+      λ i. record {
+        ni = at 6 2 (omega arith) i;
+        nj = at 8 2 (omega arith) i;
+        la1 = signed 3 (at 10 3 (omega arith) i);
+        lo1 = signed 3 (at 13 3 (omega arith) i);
+        flags = grid-octet h 16 (omega arith) i;
+        la2 = signed 3 (at 17 3 (omega arith) i);
+        lo2 = signed 3 (at 20 3 (omega arith) i);
+        di = at 23 2 (omega arith) i;
+        dj = at 25 2 (omega arith) i;
+        scan = grid-octet h 27 (omega arith) i;
+      }
+
+  grid-in : gridIn o ≡ gridIn s
+  unfolding gridIn
+  grid-in = (λ i. cond (grid-there i) (Given (gridAt o (places-same i .gds .start))) Nothing) ∙ found (hasGrid s pdsStart) grid-same
+    where
+      found : (b : Bool) → (b ≡ true → gridAt o G ≡ gridAt s G) → cond b (Given (gridAt o G)) Nothing ≡ cond b (Given (gridAt s G)) Nothing
+      found true h = ap Given (h refl)
+      found false h = refl
+
+  grid-of : gridOf o ≡ gridOf s
+  unfolding gridOf
+  grid-of =
+      ap (λ (f : Found). gridFrom f o pdsStart) grid-in
+      ∙ from-same (gridIn s) o 8 (drop 8 s) (pds-octet 14 (omega arith) ∙ sym (getD-drop 8 s 6 0)) ∙ sym (from-same (gridIn s) s 8 (drop 8 s) (sym (getD-drop 8 s 6 0)))
+
+  points-same : pointsIn o ≡ pointsIn s
+  unfolding pointsIn
+  points-same = ap (λ (f : Found). pointsOf (theGrid f)) grid-of
+
+  -- the bitmap
+  map-number : hasBitmap s pdsStart ≡ true → number o M 5 6 ≡ number s M 5 6
+  map-number h = map-bits h ((M + 4) * 8) 16 (omega arith) (omega arith)
+
+  bitmap-same : bitmapIn o ≡ bitmapIn s
+  unfolding bitmapIn bitmapAt
+  bitmap-same =
+      (λ i. bitmapAt o (bitmap-there i) (places-same i .bms .start)) ∙ kinds (hasBitmap s pdsStart) (number o M 5 6) (number s M 5 6) map-number
+    where
+      kinds : (b : Bool) (x y : ℕ) → (b ≡ true → x ≡ y) → cond b (cond (eqb x 0) Carried (Stored x)) Without ≡ cond b (cond (eqb y 0) Carried (Stored y)) Without
+      kinds true x y h = ap (λ (k : ℕ). cond (eqb k 0) Carried (Stored k)) (h refl)
+      kinds false x y h = refl
+
+  map-octet : hasBitmap s pdsStart ≡ true → getD o (M + 3) 0 ≡ getD s (M + 3) 0
+  map-octet h = by-bits (M + 3) (map-bits h ((M + 3) * 8) 8 (omega arith) (omega arith))
+
+  given-there : (m : Bitmap) → bitmapIn s ≡ m → bitmapGiven m ≡ true → hasBitmap s pdsStart ≡ true
+  given-there m e g = kind s lent t ∙ ap bitmapGiven e ∙ g
+
+  present-as : (m : Bitmap) → bitmapIn s ≡ m → (i : ℕ) → i < n
+      → presentBy m (bitmapOctets o (lent .octets) (inForce m (placesOf s .bms) n)) i ≡ presentBy m (bitmapOctets s (lent .octets) (inForce m (placesOf s .bms) n)) i
+  unfolding presentBy bitmapOctets inForce
+  present-as Without e i l = refl
+  present-as (Stored k) e i l = refl
+  present-as Carried e i l =
+      bits-take (octetsFor n) (drop (M + 6) o) i (omega arith) ∙ sym (bits-drop (M + 6) o i)
+      ∙ same ((M + 6) * 8 + i) (clear-of ((M + 6) * 8 + i) (inr (omega arith)) (inl (omega arith)) (inl (omega (arith, map-end e))))
+      ∙ bits-drop (M + 6) s i ∙ sym (bits-take (octetsFor n) (drop (M + 6) s) i (omega arith))
+
+  present-same : (i : ℕ) → i < n → presentIn o lent i ≡ presentIn s lent i
+  unfolding presentIn inForceIn
+  present-same i l =
+      (λ k. presentBy (bitmap-same k) (bitmapOctets o (lent .octets) (inForce (bitmap-same k) (places-same k .bms) (points-same k))) i) ∙ present-as (bitmapIn s) refl i l
+
+  count-upto : (i : ℕ) → i ≤ n → count (presentIn o lent) 0 i ≡ count (presentIn s lent) 0 i
+  count-upto = count-same (presentIn o lent) (presentIn s lent) n present-same
+
+  present-count : presentCount o lent ≡ presentCount s lent
+  unfolding presentCount
+  present-count = ap (count (presentIn o lent) 0) points-same ∙ count-upto n (omega arith)
+
+  -- the data
+  data-octet : (k : ℕ) → k < 11 → getD o (D + k) 0 ≡ getD s (D + k) 0
+  data-octet k l = by-bits (D + k) (data-bits ((D + k) * 8) 8 (omega arith) (omega arith))
+
+  packing-same : packingIn o ≡ packingIn s
+  unfolding packingIn packingAt
+  packing-same = ap (λ (p : Places). packingAt o (p .bds .start)) places-same ∙ (λ i. record { flags = data-octet 3 (omega arith) i / 16; bits = data-octet 10 (omega arith) i })
+
+  scale-same : scaleIn o ≡ scaleIn s
+  unfolding scaleIn scaleAt
+  scale-same =
+      let e = data-bits ((D + 4) * 8) 16 (omega arith) (omega arith) in
+      let r = data-bits ((D + 6) * 8) 32 (omega arith) (omega arith) in
+      ap (λ (p : Places). scaleAt o (p .bds .start)) places-same ∙ (λ i. record { e = signed 2 (e i); r = r i })
+
+  abbrev xs : List ℕ → List ℕ
+  xs x = valuesAt x D (packingIn s .bits) (presentCount s lent)
+
+  xs-same : xs o ≡ xs s
+  unfolding valuesAt
+  xs-same = runs-ext (bitsIn 8 o) (bitsIn 8 s) ((D + 11) * 8) ((D + 11) * 8) (packingIn s .bits) (presentCount s lent) (λ i l. data-bit ((D + 11) * 8 + i) (omega arith) (omega arith))
+
+  values-same : valuesIn o lent ≡ valuesIn s lent
+  unfolding valuesIn scattered valueAt
+  values-same =
+      (λ i. scattered (presentIn o lent) (valuesAt o (places-same i .bds .start) (packing-same i .bits) (present-count i)) (points-same i))
+      ∙ ap (λ (x : List ℕ). scattered (presentIn o lent) x n) xs-same
+      ∙ tab-ext (valueAt (presentIn o lent) (xs s)) (valueAt (presentIn s lent) (xs s)) n (λ k l i. cond (eqb (present-same k l i) 1) (getD (xs s) (count-upto k (omega arith) i) 0) 0)
+
+  marks-same : marksIn o lent ≡ marksIn s lent
+  unfolding marksIn
+  marks-same = ap (tab (presentIn o lent)) points-same ∙ tab-ext (presentIn o lent) (presentIn s lent) n present-same
+
+  parts-same : partsIn o lent ≡ partsIn s lent
+  unfolding partsIn
+  parts-same = λ i. record {
+    pds = pds-same i;
+    form = record { grid = grid-in i; bitmap = bitmap-same i; packing = packing-same i };
+    scale = scale-same i;
+    lent = lent;
+    values = values-same i;
+    marks = marks-same i;
+  }
+
+  -- and the twelve rows
+  gds-passes : (hasGrid o pdsStart && anyOf (gdsFaults o (placesOf o .gds))) ≡ false
+  unfolding gdsFaults
+  gds-passes =
+      let p = placesOf s .gds in
+      (λ i. grid-there i && anyOf (gdsFaults o (places-same i .gds)))
+      ∙ gate (hasGrid s pdsStart) _ _
+      (λ h i.
+      anyOf (not (eqb (p .len) gdsLength) ∷ not (eqb (grid-octet h 3 (omega arith) i) 0) ∷ not (eqb (grid-octet h 4 (omega arith) i) 255) ∷ not (eqb (grid-octet h 5 (omega arith) i) 0) ∷ []))
+      ∙ j .gds
+    where
+      gate : (b x y : Bool) → (b ≡ true → x ≡ y) → (b && x) ≡ (b && y)
+      gate true x y h = h refl
+      gate false x y h = refl
+
+  map-passes : (m : Bitmap) → bitmapIn s ≡ m → bitmapFaults o lent (placesOf s .bms) m n ≡ bitmapFaults s lent (placesOf s .bms) m n
+  unfolding bitmapFaults
+  map-passes Without e = refl
+  map-passes Carried e =
+      ap (λ (u : ℕ). ltb 15 u ∷ not (eqb (8 * (placesOf s .bms .len - 6)) (n + u)) ∷ []) (map-octet (given-there Carried e refl))
+  map-passes (Stored k) e =
+      ap (λ (u : ℕ). not (eqb (placesOf s .bms .len) 6) ∷ not (eqb u 0) ∷ lentFaults lent k n) (map-octet (given-there (Stored k) e refl))
+
+  total-passes : anyOf (totalFaults o) ≡ false
+  unfolding totalFaults
+  total-passes =
+      let e : length s - 4 ≡ end = omega (arith, at .end) in
+      let a = front-bits 32 24 (omega (arith, pds-least)) in
+      let b : number o (endStart o) 1 4 ≡ number s (endStart s) 1 4 = ap (λ (x : ℕ). number o (x - 4) 1 4) len ∙ end-bits ((length s - 4 + 0) * 8) 32 (omega arith) in
+      (λ i. anyOf (not (eqb (a i) (len i)) ∷ not (eqb (b i) sevens) ∷ [])) ∙ j .total
+
+  time-passes : anyOf (timeFaults o pdsStart) ≡ false
+  unfolding timeFaults
+  time-passes =
+      (λ i. anyOf (momentFaults (pds-octet 32 (omega arith) i) (pds-octet 20 (omega arith) i) (pds-octet 21 (omega arith) i) (pds-octet 22 (omega arith) i) (pds-octet 23 (omega arith) i) (pds-octet 24 (omega arith) i)))
+      ∙ j .time
+
+  passes : Judged o lent
+  unfolding sizeBad markBad editionBad lengthBad
+  passes = record {
+    size = ap (outside messageLeast messageMost) len ∙ j .size;
+    mark = ap (λ (x : ℕ). not (eqb x grib)) (front-bits 0 32 (omega (arith, pds-least))) ∙ j .mark;
+    edition = ap (λ (x : ℕ). not (eqb x 1)) (pds-octet 7 (omega arith)) ∙ j .edition;
+    total = total-passes;
+    places = (λ i. anyOf (placesFaults (len i - 4) (grid-there i) (bitmap-there i) (places-same i))) ∙ j .places;
+    time = time-passes;
+    found = ap gridMissing grid-of ∙ j .found;
+    gds = gds-passes;
+    grid = ap (λ (f : Found). anyOf (gridFaults (theGrid f))) grid-of ∙ j .grid;
+    bitmap = (λ i. anyOf (bitmapFaults o lent (places-same i .bms) (bitmap-same i) (points-same i))) ∙ ap anyOf (map-passes (bitmapIn s) refl) ∙ j .bitmap;
+    packing = ap (λ (p : Packing). anyOf (packingFaults p)) packing-same ∙ j .packing;
+    length =
+        (λ i. lengthBad o (places-same i .bds) (present-count i) (packing-same i))
+        ∙ ap (λ (x : ℕ). not (eqb (8 * (placesOf s .bds .len - 11)) (used + x % 16))) (data-octet 3 (omega arith)) ∙ j .length;
+  }
+
+pub padding-ignored : PaddingIgnored
+padding-ignored s o lent ws wo len same t = (taken-by _ (unjudged o lent (passes s o lent ws wo len same t)), parts-same s o lent ws wo len same t)
