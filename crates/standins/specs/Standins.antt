@@ -81,11 +81,11 @@ abbrev pub unwritten : Parts → List ℕ → List ℕ
 unwritten w out = out
 
 -- what stands for a check
-abbrev pub yes-always : List ℕ → Lent → Source → Refusal
-yes-always s lent f = refusal 0
+abbrev pub yesAlways : List ℕ → Lent → Source → Refusal
+yesAlways s lent f = refusal 0
 
-abbrev pub no-always : List ℕ → Lent → Source → Refusal
-no-always s lent f = refusal 17
+abbrev pub noAlways : List ℕ → Lent → Source → Refusal
+noAlways s lent f = refusal 17
 
 -- what stands for a packer: nothing is packed; or X is rounded down
 abbrev pub unpacking : List ℕ → Form → Lent → Source → List ℕ → Written
@@ -158,10 +158,10 @@ abbrev pub writesNothing : Codec
 writesNothing = outputting unwritten
 
 abbrev pub alwaysYes : Codec
-alwaysYes = checking yes-always
+alwaysYes = checking yesAlways
 
 abbrev pub alwaysNo : Codec
-alwaysNo = checking no-always
+alwaysNo = checking noAlways
 
 abbrev pub packsNothing : Codec
 packsNothing = packing unpacking unpacked

@@ -57,6 +57,21 @@ WriteAfterRead =
 abbrev pub WriteAfterReadExactly : Type 0
 WriteAfterReadExactly = (s : List ℕ) (lent : Lent) → Below 256 s → Taken s lent → T (canonical s lent) ↔ (message (partsIn s lent) ≡ s)
 
+-- and none of the conditions can be left out: for each there is a message of octets that is taken, breaks that one alone, and does not come back
+abbrev pub only : ℕ → List Bool
+only k = eqb k 0 ∷ eqb k 1 ∷ eqb k 2 ∷ eqb k 3 ∷ eqb k 4 ∷ eqb k 5 ∷ eqb k 6 ∷ eqb k 7 ∷ []
+
+pub record Stained (k : ℕ) : Type 0 where
+  pub s : List ℕ
+  pub lent : Lent
+  pub octets : Below 256 s
+  pub taken : Taken s lent
+  pub alone : stains s lent ≡ only k
+  pub lost : message (partsIn s lent) ≡ s → ⊥
+
+abbrev pub StainsNeeded : Type 0
+StainsNeeded = (k : ℕ) → k < 8 → Stained k
+
 -- "29-32 reserved, .. written zero", "Padding bits are .. written zero", minus zero "is written as plus zero": whatever is written has none of the stains.
 -- (Of D, in the PDS given, and of R the octets are written as given; `stains` speaks of neither)
 abbrev pub WrittenCanonical : Type 0
@@ -82,18 +97,3 @@ abbrev pub PaddingIgnored : Type 0
 PaddingIgnored =
     (s o : List ℕ) (lent : Lent) → Below 256 s → Below 256 o → length o ≡ length s → ((i : ℕ) → (Ignored s lent i → ⊥) → bitsIn 8 o i ≡ bitsIn 8 s i)
     → Taken s lent → Taken o lent × (partsIn o lent ≡ partsIn s lent)
-
--- none of the conditions of `canonical` can be left out: for each there is a message of octets that is taken, breaks that one alone, and does not come back
-abbrev pub only : ℕ → List Bool
-only k = eqb k 0 ∷ eqb k 1 ∷ eqb k 2 ∷ eqb k 3 ∷ eqb k 4 ∷ eqb k 5 ∷ eqb k 6 ∷ eqb k 7 ∷ []
-
-pub record Stained (k : ℕ) : Type 0 where
-  pub s : List ℕ
-  pub lent : Lent
-  pub octets : Below 256 s
-  pub taken : Taken s lent
-  pub alone : stains s lent ≡ only k
-  pub lost : message (partsIn s lent) ≡ s → ⊥
-
-abbrev pub StainsNeeded : Type 0
-StainsNeeded = (k : ℕ) → k < 8 → Stained k
