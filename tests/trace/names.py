@@ -51,9 +51,9 @@ def words(names):
     return [w.strip() for w in names.split(",")]
 
 
-def declared(source, name):
-    """Whether a text of definitions or proofs declares a name: an equation of it, or a longer name, is not enough."""
-    return re.search(rf"(?m)^\s*(?:(?:abbrev|unfoldable) )?(?:pub )?(?:record |data )?{re.escape(name)}(?![\w'-])[^=\n]*:", source)
+def declared(source, name, inside=""):
+    """Whether a text of definitions or proofs declares a name: an equation, a field or a longer name is not enough. A law may stand inside a module."""
+    return re.search(rf"(?m)^{inside}(?:(?:abbrev|unfoldable) )?(?:pub )?(?:record |data )?{re.escape(name)}(?![\w'-])[^=\n]*:", source)
 
 
 def spec(place):
@@ -107,7 +107,7 @@ def theorems(cell, at):
                 proofs = text("crates", crate, "proofs")
                 want(re.search(rf"(?m)^\s*pub [\w'-]+ : {name}$", proofs), f"{at}: theorem {name} has no proof in {crate}")
             else:
-                want(declared(text("crates", crate, "proofs", file + ".antt"), name), f"{at}: no law {name} in {m[2]}")
+                want(declared(text("crates", crate, "proofs", file + ".antt"), name, r"\s*"), f"{at}: no law {name} in {m[2]}")
 
 
 def vectors():
