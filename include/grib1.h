@@ -8,7 +8,7 @@
  * A buffer that is not written is only read. A reply other than 0 changes no buffer and comes with every other field 0.
  * Padding between fields has no set content.
  *
- * Thread-safe: no globals, no heap, nothing is kept between calls. Stack: under 2 KiB in every function (measured).
+ * Thread-safe: no globals, no heap, nothing is kept between calls. Stack (measured): under 1 KiB, and in grib1_check, which holds 256 values at a time, 2.1 KiB.
  *
  * message        one GRIB message, whole: 'GRIB' to '7777'
  * number, store  the stored bitmap that is lent with the message: its number and its octets; none: 0, and any pointer with length 0

@@ -10,7 +10,7 @@ pub struct Refusal {
     pub reply: u32,
 }
 
-// Document 01's words for each number.
+// What each number says, after document 01's table.
 const WORDS: [&str; 20] = [
     "accepted",
     "slice below 8 or above 262,144 octets",

@@ -2,8 +2,8 @@
 ghost use mathlib.Core.Path.{_≡_};
 ghost use mathlib.Core.List.{[]};
 ghost use Rattle.rules.specs.Table.{anyOf};
-ghost use Rattle.bits.specs.Bits.{count, octetsFor};
-ghost use Rattle.rules.specs.declared.Bitmap.the-variants.{Without, Carried, Stored};
+ghost use Rattle.bits.specs.Bits.{count};
+ghost use Rattle.rules.specs.declared.Bitmap.the-variants.{Carried, Stored};
 ghost use Rattle.rules.specs.Bitmap.{bitmapAt, bitmapFaults, inForce, bitmapOctets, presentBy};
 use octets::octet;
 use octets::two;

@@ -8,6 +8,7 @@ use native.Mathlib.Nat.{lt-irrefl, not-suc-le-zero}
 use borrow.Author.Tests.{ltb-false, ltb-true}
 use lib.Dec.{T, ltb}
 use Rattle.bits.specs.Tables.{anyBelow, leastBelow}
+use Rattle.bits.proofs.Tests.{or-false, or-none}
 
 -- of the numbers below suc n: n itself, or one below n
 pub upto {ℓ} : (P : ℕ → Type ℓ) (n : ℕ) → ((i : ℕ) → i < n → P i) → P n → (i : ℕ) → i < suc n → P i
@@ -19,17 +20,6 @@ upto P n h q i l = go (ltb i n) refl
         let same : n ≡ i = omega (arith, l, ltb-false i n e) in
         subst P same q
 
-pub or-false : (a b : Bool) → (a || b) ≡ false → (a ≡ false) × (b ≡ false)
-or-false true b e = (e, absurd (subst T e tt))
-or-false false b e = (refl, e)
-
-or-none : (a b : Bool) → a ≡ false → b ≡ false → (a || b) ≡ false
-or-none a b p q = simp (p, q)
-
-or-nothing : (a : Bool) → (a || false) ≡ a
-or-nothing true = refl
-or-nothing false = refl
-
 -- a loop that tests one number after another: where it begins, and a turn
 pub any-none : (f : ℕ → Bool) → false ≡ anyBelow f 0
 unfolding anyBelow
@@ -38,10 +28,6 @@ any-none f = refl
 pub any-next : (f : ℕ → Bool) (i : ℕ) (a b : Bool) → a ≡ anyBelow f i → b ≡ f i → (a || b) ≡ anyBelow f (i + 1)
 unfolding anyBelow
 any-next f i a b p q = rw (add-one, p, q)
-
-pub any-skip : (f : ℕ → Bool) (i : ℕ) (a : Bool) → a ≡ anyBelow f i → f i ≡ false → a ≡ anyBelow f (i + 1)
-unfolding anyBelow
-any-skip f i a p q = rw (add-one, q) (p ∙ sym (or-nothing (anyBelow f i)))
 
 -- tests that agree
 pub any-ext : (f g : ℕ → Bool) (n : ℕ) → ((i : ℕ) → i < n → f i ≡ g i) → anyBelow f n ≡ anyBelow g n

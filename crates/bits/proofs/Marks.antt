@@ -1,6 +1,6 @@
 -- Marks, one bit each: a table of them is a list of numbers of one bit; and what it says that there is a one among them, or none.
 use Prim.Native.Nat.{ℕ, zero, suc, _+_, _*_, _≤_, _<_}
-use mathlib.Core.Path.{_≡_, refl, sym, subst, _∙_, ap, ap₂}
+use mathlib.Core.Path.{_≡_, sym, subst, _∙_, ap}
 use mathlib.Core.Logic.{⊎-elim}
 use native.Mathlib.Omega.{arith}
 use native.Mathlib.Nat.{zero-add, not-suc-le-zero}
@@ -33,11 +33,6 @@ pub zeros-of : (f : ℕ → ℕ) (a n : ℕ) → count f a n ≡ 0 → (i : ℕ)
 unfolding count
 zeros-of f a zero e i l = absurd (not-suc-le-zero l)
 zeros-of f a (suc n) e i l = upto (λ i. f (a + i) ≡ 0) n (zeros-of f a n (omega arith)) (omega arith) i l
-
-pub of-zeros : (f : ℕ → ℕ) (a n : ℕ) → ((i : ℕ) → i < n → f (a + i) ≡ 0) → count f a n ≡ 0
-unfolding count
-of-zeros f a zero h = refl
-of-zeros f a (suc n) h = ap₂ (λ (x y : ℕ). x + y) (of-zeros f a n (λ i l. h i (omega arith))) (h n (omega arith))
 
 -- a one is counted
 pub count-pos : (f : ℕ → ℕ) (n i : ℕ) → i < n → f i ≡ 1 → 0 < count f 0 n

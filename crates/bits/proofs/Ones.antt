@@ -1,8 +1,8 @@
 -- The laws of a count of ones.
 use mathlib.Core.Path.{_≡_, refl, sym, ap, ap₂, _∙_, subst}
 use mathlib.Core.List.{List}
-use Prim.Native.Nat.{ℕ, zero, suc, _+_, _-_, _*_, _/_, _%_, _^_, _≤_, _<_, zero-le}
-use native.Mathlib.Nat.{add-zero, add-suc, add-assoc, zero-add, le-of-suc-le-suc, not-suc-le-zero, div-add-mod', mod-eq-of-lt}
+use Prim.Native.Nat.{ℕ, zero, suc, _+_, _-_, _*_, _/_, _^_, _≤_, _<_, zero-le}
+use native.Mathlib.Nat.{add-zero, add-suc, add-assoc, zero-add, le-of-suc-le-suc, not-suc-le-zero, mod-eq-of-lt}
 use native.Mathlib.Numerals.{add-one}
 use native.Mathlib.Omega.{arith}
 use lib.ListN.{getD, length}
@@ -67,11 +67,6 @@ ones-mask s k r h l =
     ∙ run-top 8 x r h (omega arith)))
     ∙ ones-run (bitsIn-bits 8 s) (k * 8) r
 
--- one bit
-pub run-one : (f : ℕ → ℕ) (at : ℕ) → run f at 1 ≡ f at
-unfolding run
-run-one f at = zero-add (f (at + 0)) ∙ ap f (add-zero at)
-
 -- a one is counted, and a bit that is no one is not
 pub count-one : (f : ℕ → ℕ) (i : ℕ) → f i ≡ 1 → count f 0 (i + 1) ≡ count f 0 i + 1
 unfolding count
@@ -86,13 +81,6 @@ pub count-mono : (f : ℕ → ℕ) (at i m : ℕ) → i ≤ m → count f at i �
 count-mono f at i m h =
     let e : i + (m - i) ≡ m = omega arith in
     omega (arith, count-split f at i (m - i), ap (count f at) e)
-
--- the ones before a point: those before its group of 256 points, and those before it in the group, whose first octet is 32 times its number
-pub count-group : (f : ℕ → ℕ) (p : ℕ) → count f 0 p ≡ count f 0 (p / 256 * 256) + count f (p / 256 * 32 * 8) (p % 256)
-count-group f p =
-    let e : 0 + p / 256 * 256 ≡ p / 256 * 32 * 8 = omega arith in
-    ap (count f 0) (sym (div-add-mod' p 256)) ∙ count-split f 0 (p / 256 * 256) (p % 256)
-    ∙ ap (λ (a : ℕ). count f 0 (p / 256 * 256) + count f a (p % 256)) e
 
 -- eight octets more
 pub count-eight : (s : List ℕ) (k j : ℕ) → count (bitsIn 8 s) (k * 8) ((j + 8) * 8) ≡ count (bitsIn 8 s) (k * 8) (j * 8) + ones (run (bitsIn 8 s) ((k + j) * 8) 64)

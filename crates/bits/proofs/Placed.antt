@@ -12,7 +12,7 @@ use lib.ListN.{length, getD, take, drop, length-take, List·getD-eq-default}
 use lib.Seq.{getD-take, take-suc, length-take-le}
 use Rattle.bits.specs.Bits.{bitOf, bitsIn, run, runs, join, octetsFor, putAt, numberAt, packedInto}
 use Rattle.bits.specs.Tables.{tab}
-use Rattle.bits.proofs.Runs.{Bits, bitsIn-bits, bitOf-bits, run-octet, run-word, run-lt, run-ext, run-split, run-top, run-unit, bits-at, lt-or-ge}
+use Rattle.bits.proofs.Runs.{Bits, bitsIn-bits, bitOf-bits, run-word, run-lt, run-ext, run-split, run-top, run-unit, bits-at, lt-or-ge}
 use Rattle.bits.proofs.Trip.{Wide, bits-runs, runs-ext, runs-own, bit-run, bits-past}
 use Rattle.bits.proofs.Next.{bits-after, join-lt, join-ge, join-bits, put-packedInto}
 
@@ -147,19 +147,6 @@ pack-turn n vs s i h l =
     ap (λ (x : ℕ). putAt (packedInto n (take i vs) s) (x * n) n v) (sym m)
     ∙ put-packedInto n (take i vs) v s (subst (Wide n) (sym e) (wide-take n vs (i + 1) h)) (wide-one n v (h i))
     ∙ ap (λ (x : List ℕ). packedInto n x s) e
-
-pub wide-snoc : (n : ℕ) (xs : List ℕ) (v : ℕ) → Wide n xs → v < 2 ^ n → Wide n (xs ++ (v ∷ []))
-wide-snoc n [] v w h k = wide-one n v h k
-wide-snoc n (x ∷ xs) v w h zero = w zero
-wide-snoc n (x ∷ xs) v w h (suc k) = wide-snoc n xs v (λ j. w (suc j)) h k
-
--- three octets as a number
-pub run-three : (s : List ℕ) (k : ℕ) → Wide 8 s → run (bitsIn 8 s) (k * 8) 24 ≡ (getD s k 0 * 256 + getD s (k + 1) 0) * 256 + getD s (k + 2) 0
-unfolding run
-run-three s k w =
-    run-octet s k 2 (w (k + 2)) ∙ ap (λ (x : ℕ). x * 256 + getD s (k + 2) 0)
-    (run-octet s k 1 (w (k + 1)) ∙ ap (λ (x : ℕ). x * 256 + getD s (k + 1) 0)
-    (run-octet s k 0 (w (k + 0)) ∙ zero-add (getD s (k + 0) 0) ∙ ap (λ (x : ℕ). getD s x 0) (add-zero k)))
 
 -- a number that was put is read back
 pub number-back : (s : List ℕ) (k c x : ℕ) → k + c ≤ length s → x < 2 ^ (c * 8) → run (bitsIn 8 (numberAt s k c x)) (k * 8) (c * 8) ≡ x

@@ -3,8 +3,7 @@ use mathlib.Core.Path.{_≡_, refl, sym, ap, ap₂, _∙_, subst}
 use mathlib.Core.List.{List, [], _∷_, _++_, append-nil}
 use mathlib.Core.Logic.{⊎-elim}
 use Prim.Native.Nat.{ℕ, zero, suc, _+_, _-_, _*_, _/_, _%_, _^_, _≤_, _<_}
-use native.Mathlib.Nat.{not-suc-le-zero, zero-add, add-zero, add-assoc, mod-lt, div-add-mod', div-lt-iff-lt-mul, le-div-iff-mul-le, mul-le-mul-right, mul-zero, zero-div, zero-lt-suc, le-refl}
-use native.Mathlib.Numerals.{add-one}
+use native.Mathlib.Nat.{not-suc-le-zero, zero-add, add-zero, add-assoc, mod-lt, div-add-mod', div-lt-iff-lt-mul, le-div-iff-mul-le, mul-zero, zero-div, zero-lt-suc, le-refl}
 use native.Mathlib.Omega.{arith}
 use lib.Arith.{lt-one}
 use lib.ListN.{length, getD, take, drop, take-append-drop, List·getD-append, List·getD-eq-default}
@@ -12,7 +11,7 @@ use lib.Seq.{take-suc, take-length}
 use lib.Pow.{pow-pos}
 use Rattle.bits.specs.Bits.{bitOf, bitsIn, run, runs, octetsFor, packedInto}
 use Rattle.bits.specs.Tables.{tab}
-use Rattle.bits.proofs.Runs.{Bits, bitsIn-bits, run-lt, run-ext, run-field, run-unit, bits-at, next, lt-or-ge}
+use Rattle.bits.proofs.Runs.{Bits, bitsIn-bits, run-lt, run-ext, run-field, run-unit, bits-at, lt-or-ge, next-le}
 use Rattle.bits.proofs.Fill.{length-tab, getD-tab, tab-ext}
 
 -- each number of xs has w bits
@@ -33,10 +32,7 @@ unfolding runs
 runs-ext f g a b n m h =
     tab-ext (λ k. run f (a + k * n) n) (λ k. run g (b + k * n) n) m
     (λ k l. run-ext f g (a + k * n) (b + k * n) n
-    (λ j i. ap f (add-assoc a (k * n) j) ∙ h (k * n + j) (omega (arith, next-le' k m n l)) ∙ ap g (sym (add-assoc b (k * n) j))))
-  where
-    next-le' : (i m n : ℕ) → i < m → i * n + n ≤ m * n
-    next-le' i m n h = subst (λ (x : ℕ). x ≤ m * n) (next i n) (mul-le-mul-right n (subst (λ (x : ℕ). x ≤ m) (sym (add-one i)) h))
+    (λ j i. ap f (add-assoc a (k * n) j) ∙ h (k * n + j) (omega (arith, next-le k m n l)) ∙ ap g (sym (add-assoc b (k * n) j))))
 
 -- bit j of a run is bit j of what the run is of
 pub bit-run : {f : ℕ → ℕ} → Bits f → (a w j : ℕ) → j < w → bitOf w (run f a w) j ≡ f (a + j)

@@ -1,6 +1,5 @@
 // The functions of `runs` and `puts` beside a computation that takes one bit at a time, at every width from 0 to 24 and every bit
 // offset from 0 to 7. Each check answers how many things differ.
-ghost use mathlib.Core.Path.{_≡_};
 ghost use Prim.Native.Nat.{_+_, _*_, _<_, _≤_};
 ghost use lib.ListN.{length};
 

@@ -1,16 +1,13 @@
--- A count turned stays below its bound, a point's number fits, a product above a number has two factors; by cases and arithmetic.
-use mathlib.Core.Path.{_≡_, sym, subst}
+-- A count turned stays below its bound, and a point's number fits; by cases and arithmetic.
+use mathlib.Core.Path.{_≡_}
 use mathlib.Core.Bool.{Bool, true, false, _&&_}
-use Prim.Native.Nat.{ℕ, zero, suc, _+_, _*_, _<_}
+use Prim.Native.Nat.{ℕ, _+_, _*_, _<_}
 use native.Mathlib.Omega.{arith}
-use native.Mathlib.Nat.{mul-zero, zero-mul}
-use lib.Dec.{T, ltb, ltb→lt}
+use borrow.Author.Tests.{ltb-true}
+use lib.Dec.{ltb}
 use Rattle.bits.proofs.Products.{product}
+use Rattle.bits.proofs.Tests.{and-left, and-right}
 use Rattle.rules.specs.Chart.{turned}
-
-split : (a b : Bool) → (a && b) ≡ true → T a × T b
-split true b e = (tt, subst T (sym e) tt)
-split false b e = absurd (subst T (sym e) tt)
 
 pub turned-lt : (turn : Bool) (n i r : ℕ) → r ≡ turned turn n i → i < n → r < n
 unfolding turned
@@ -28,14 +25,6 @@ module _ (t u : Bool) (ni nj row column j i : ℕ) (ej : j ≡ turned t nj row) 
   pub rows-fit : (j * ni < 4294967296) × (j * ni + i < 4294967296)
   rows-fit = fits j ni i (omega (arith, turned-lt t nj row j ej hj)) bi (omega (arith, turned-lt u ni column i ei hi))
 
-pub left : (a b k : ℕ) → k < a * b → 0 < a
-left zero b k h = omega (arith, zero-mul b)
-left (suc a) b k h = omega arith
-
-pub right : (a b k : ℕ) → k < a * b → 0 < b
-right a zero k h = omega (arith, mul-zero a)
-right a (suc b) k h = omega arith
-
 -- two tests that hold together
 pub both : (a b c d : ℕ) → (ltb a b && ltb c d) ≡ true → (a < b) × (c < d)
-both a b c d e = let h = split (ltb a b) (ltb c d) e in (ltb→lt a b (h .0), ltb→lt c d (h .1))
+both a b c d e = (ltb-true a b (and-left (ltb a b) (ltb c d) e), ltb-true c d (and-right (ltb a b) (ltb c d) e))

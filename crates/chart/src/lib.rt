@@ -27,7 +27,7 @@ fn turned(turn: bool, n: u32, i: u32) -> u32
     pick(turn, less(less(n, 1), i), i)
 }
 
-// "Bit 1 set: columns run west. Bit 2 set: rows run north. Bit 3 set: points of one column are consecutive, else of one row".
+// "Scanning bit 1 set: columns run west. Bit 2 set: rows run north. Bit 3 set: points of one column are consecutive, else of one row".
 fn spot(ni: u32, nj: u32, scan: u8, k: u32) -> Spot
     requires { ⌜ 0 < ni ⌝ }
     requires { ⌜ 0 < nj ⌝ }

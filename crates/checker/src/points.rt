@@ -18,9 +18,9 @@ use crate::steps::far;
 use octets::octet;
 use rules::Bitmap;
 use rules::Part;
-use rules::bounds::SOURCE_MOST;
 use runs::fetch;
 use runs::unpack;
+use source::large;
 
 // Whether there is a point whose mark is not 0 or 1, a present one whose number is outside its bound, one whose mark is not the message's, and
 // a present one that is out by more than half a step.
@@ -29,13 +29,6 @@ pub(crate) struct Found {
     pub large: bool,
     pub unlike: bool,
     pub out: bool,
-}
-
-// Whether a number is outside its bound.
-fn large(v: i32) -> bool
-    ensures { λ r. ⌜ r ≡ beyond sourceMost v ⌝ }
-{
-    (SOURCE_MOST < v) | (v < -SOURCE_MOST)
 }
 
 // The message's mark of point i: its bit, the first of which is the first of octet p; 1 where there is no bitmap.

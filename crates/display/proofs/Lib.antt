@@ -1,4 +1,3 @@
-pub mod Lead
 pub mod Shift
 pub mod Finite
 pub mod Laws

@@ -1,24 +1,25 @@
 -- What reading answers: refused by the message's own rows, by 14, or both lists filled; from the header and one more row.
-use mathlib.Core.Path.{_≡_, refl, sym, ap, ap₂, _∙_, subst}
+use mathlib.Core.Path.{_≡_, refl, sym, ap, _∙_, subst}
 use mathlib.Core.Bool.{Bool, true, false, _||_, cond}
 use mathlib.Core.List.{List, _++_}
-use Prim.Native.Nat.{ℕ, _+_, _*_, _≤_, _<_}
+use Prim.Native.Nat.{ℕ, _+_, _*_, _≤_}
 use native.Mathlib.Omega.{arith}
 use borrow.Author.Tests.{ltb-false}
-use lib.Dec.{T, ltb, eqb}
+use lib.Dec.{T, ltb}
 use lib.ListN.{length, drop}
 use Rattle.rules.specs.declared.{Refusal.Refusal, Places.Places, Packing.Packing, Header.Header}
 use Rattle.bits.specs.Bits.{bitsIn, count, runs}
 use Rattle.bits.specs.Tables.{tab}
 use Rattle.bits.proofs.Fill.{length-tab}
 use Rattle.rules.specs.Bounds.{messageMost}
-use Rattle.rules.specs.Table.{refusal, accepted, filled, first}
-use Rattle.rules.specs.Places.{after, placesOf, sizeBad}
+use Rattle.rules.specs.Table.{refusal, accepted, filled}
+use Rattle.rules.specs.Places.{after, sizeBad}
 use Rattle.rules.specs.Bitmap.{Lent, inForce, presentBy, bitmapOctets}
-use Rattle.rules.specs.Points.{valueAt, scattered}
+use Rattle.rules.specs.Points.{scattered}
 use Rattle.rules.specs.Values.{packingFaults, valuesAt}
-use Rattle.rules.specs.Reading.{parsedOf, foundBy, foundIn, refusedBy, ownRefusal, answerBy, headerOf, gridOf, bitmapIn, inForceIn, pointsIn, presentIn, presentCount, packingIn, valuesIn, marksIn, readTable, readRefusal, readOf, valuesAfter, marksAfter}
-use Rattle.theorems.proofs.Rows.{none-of, or-false, inside}
+use Rattle.rules.specs.Reading.{parsedOf, foundBy, foundIn, refusedBy, ownRefusal, answerBy, headerOf, inForceIn, pointsIn, presentIn, presentCount, packingIn, valuesIn, marksIn, readTable, readRefusal, readOf, valuesAfter, marksAfter}
+use Rattle.bits.proofs.Tests.{or-false}
+use Rattle.theorems.proofs.Rows.{none-of, inside}
 use Rattle.theorems.proofs.Judged.{judged}
 use Rattle.theorems.proofs.Tiles.{sections}
 use Rattle.theorems.proofs.Bounded.{bitmap-inside}

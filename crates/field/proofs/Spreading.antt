@@ -1,9 +1,9 @@
 -- Laws of the loop that spreads values to their points from the last to the first.
 use mathlib.Core.Path.{_≡_, refl, sym, ap, ap₂, _∙_, subst}
-use mathlib.Core.List.{List, [], _∷_, _++_}
+use mathlib.Core.List.{List, [], _++_}
 use mathlib.Core.Logic.{_⊎_, ⊎-elim}
-use Prim.Native.Nat.{ℕ, zero, suc, _+_, _-_, _*_, _/_, _%_, _^_, _≤_, _<_, zero-le}
-use native.Mathlib.Nat.{zero-div, zero-add, add-zero, mul-one, mul-zero, mul-le-mul-left, lt-of-le-of-lt, eq-or-lt-of-le, not-suc-le-zero, le-of-suc-le-suc, div-add-mod'}
+use Prim.Native.Nat.{ℕ, zero, suc, _+_, _-_, _*_, _%_, _^_, _≤_, _<_, zero-le}
+use native.Mathlib.Nat.{zero-div, zero-add, mul-one, mul-zero, mul-le-mul-left, lt-of-le-of-lt, not-suc-le-zero, le-of-suc-le-suc}
 use native.Mathlib.Numerals.{add-one}
 use native.Mathlib.Decide.{ℕ-discrete}
 use native.Mathlib.Omega.{arith}
@@ -15,7 +15,8 @@ use Rattle.bits.specs.Tables.{tab}
 use Rattle.rules.specs.Points.{valueAt}
 use Rattle.bits.proofs.Runs.{Bits, bitsIn-bits, bits-at, lt-or-ge}
 use Rattle.bits.proofs.Fill.{length-tab, getD-tab, tab-ext, fill}
-use Rattle.bits.proofs.Ones.{count-le, count-one, count-mono}
+use Rattle.bits.proofs.Ones.{count-le}
+use Rattle.theorems.proofs.Gathered.{number-lt}
 use Rattle.field.specs.Down.{Down}
 
 pub count-next : (f : ℕ → ℕ) (i : ℕ) → count f 0 (i + 1) ≡ count f 0 i + f i
@@ -23,9 +24,6 @@ unfolding count
 count-next f i = ap (count f 0) (add-one i) ∙ ap (λ (x : ℕ). count f 0 i + f x) (zero-add i)
 
 -- a present point has a number below the count of ones
-pub number-lt : (f : ℕ → ℕ) (k p : ℕ) → f k ≡ 1 → k < p → count f 0 k < count f 0 p
-number-lt f k p e h = omega (arith, count-one f k e, count-mono f 0 (k + 1) p (omega arith))
-
 pub down-none : (f : ℕ → ℕ) (n : ℕ) (v : List ℕ) → Down f n v v n
 down-none f n v = record { len = refl; under = λ j h. refl; done = λ j h k. absurd (not-suc-le-zero (zero-of j h k)); past = λ j h. refl }
   where

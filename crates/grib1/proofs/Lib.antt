@@ -1,3 +1,2 @@
--- What the proofs of the C face share, and what is proved of the records that come in.
-pub mod Named
+-- What the proofs of the C face share.
 pub mod Made

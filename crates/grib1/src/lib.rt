@@ -8,27 +8,22 @@ ghost use Rattle.rules.specs.Writing.{writeOf, outputAfter};
 ghost use Rattle.rules.specs.Checking.{checkOf};
 ghost use Rattle.rules.specs.Packing.{packOf, packedAfter};
 ghost use Rattle.sections.specs.Given.{parts as theParts};
-ghost use Rattle.grib1.specs.Forms.{formBy};
-ghost use Rattle.grib1.specs.Records.{partRecord, forceRecord, headerRecord, placeRecord, pointRecord, dataRecord, displayRecord, writtenRecord, checkRecord};
-
-mod forms; // forms.rt: the record that comes in
-mod records; // records.rt: the records that go out, and how each is made
-
-pub use forms::FormRecord;
-use forms::form_by;
-pub use records::CheckRecord;
-pub use records::DataRecord;
-pub use records::DisplayRecord;
-pub use records::GridRecord;
-pub use records::HeaderRecord;
-pub use records::PartRecord;
-pub use records::PlaceRecord;
-pub use records::PointRecord;
-pub use records::WrittenRecord;
+ghost use Rattle.records.specs.Forms.{formBy};
+ghost use Rattle.records.specs.Records.{partRecord, forceRecord, headerRecord, placeRecord, pointRecord, dataRecord, displayRecord, writtenRecord, checkRecord};
+use records::CheckRecord;
+use records::DataRecord;
+use records::DisplayRecord;
+use records::FormRecord;
+use records::HeaderRecord;
+use records::PartRecord;
+use records::PlaceRecord;
+use records::PointRecord;
+use records::WrittenRecord;
 use records::check_record;
 use records::data_record;
 use records::display_record;
 use records::force_record;
+use records::form_by;
 use records::header_record;
 use records::part_record;
 use records::place_record;

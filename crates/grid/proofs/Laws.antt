@@ -1,6 +1,6 @@
--- A table searched from the top: its row at i is the answer, or the rows after it decide; over any table.
+-- A table searched from the top, a row at a time; over any table.
 use mathlib.Core.Path.{_≡_}
-use mathlib.Core.List.{List}
+use mathlib.Core.List.{List, _∷_}
 use Prim.Native.Nat.{ℕ, _+_, _<_}
 use native.Mathlib.Numerals.{add-one}
 use borrow.Author.Tests.{eq-eqb, ne-eqb}
@@ -10,11 +10,16 @@ use Rattle.rules.specs.declared.Entry.{Entry}
 use Rattle.rules.specs.declared.Found.the-variants.{Given}
 use Rattle.rules.specs.Grid.{lookup}
 
-module _ (es : List Entry) (n i : ℕ) (d : Entry) (h : i < length es) where
-  pub hit : getD es i d .number ≡ n → lookup (drop i es) n ≡ Given (getD es i d .grid)
-  unfolding lookup
-  hit e = rw (drop-cons es i d h, eq-eqb _ _ e)
+-- The rows from i on are the row at i and those after it.
+pub from : (es : List Entry) (i : ℕ) (d : Entry) → i < length es → drop i es ≡ getD es i d ∷ drop (i + 1) es
+from es i d h = rw (add-one i, drop-cons es i d h)
 
-  pub miss : (getD es i d .number ≡ n → ⊥) → lookup (drop i es) n ≡ lookup (drop (i + 1) es) n
+-- The first row is the answer, or the rows after it decide.
+module _ (es rest : List Entry) (e : Entry) (n : ℕ) (at : es ≡ e ∷ rest) where
+  pub hit : e .number ≡ n → lookup es n ≡ Given (e .grid)
   unfolding lookup
-  miss e = rw (add-one i, drop-cons es i d h, ne-eqb _ _ e)
+  hit same = rw (at, eq-eqb _ _ same)
+
+  pub miss : (e .number ≡ n → ⊥) → lookup es n ≡ lookup rest n
+  unfolding lookup
+  miss other = rw (at, ne-eqb _ _ other)

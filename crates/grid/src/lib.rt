@@ -1,6 +1,9 @@
 // The grid of a message: its GDS, the catalogue, and refusals 7 to 9. All total.
 ghost use mathlib.Core.Path.{_≡_};
 ghost use mathlib.Core.Bool.{cond};
+ghost use mathlib.Core.List.{_∷_};
+ghost use Prim.Native.Nat.{_+_, _<_};
+ghost use lib.ListN.{drop};
 ghost use Rattle.rules.specs.Table.{anyOf};
 ghost use Rattle.rules.specs.Bounds.{latitudeMost, longitudeMost};
 ghost use Rattle.rules.specs.Numbers.{beyond};
@@ -148,13 +151,21 @@ const CATALOGUE: [Entry; 7] = [
     },
 ];
 
+// The row of the catalogue at i, by itself: in the loop of `find` the whole table would be walked at every step of the proof.
+fn row(i: usize) -> Entry
+    requires { ⌜ i < 7 ⌝ }
+    ensures { λ r. ⌜ drop i catalogue ≡ r ∷ drop (i + 1) catalogue ⌝ }
+{
+    CATALOGUE[i]
+}
+
 // The grid of a number in the catalogue.
 fn find(n: u8) -> Found
     ensures { λ r. ⌜ r ≡ lookup catalogue n ⌝ }
 {
     let mut i = 0usize;
     while i < 7 {
-        let e = CATALOGUE[i];
+        let e = row(i);
         if e.number == n {
             let g = e.grid;
             return Found::Given(g);

@@ -14,6 +14,7 @@ use Rattle.bits.specs.Tables.{tab}
 use Rattle.bits.proofs.Fill.{length-tab, getD-tab}
 use Rattle.bits.proofs.Placing.{placed-none, placed-front}
 use Rattle.message.proofs.Stages.{one-more}
+use Rattle.message.proofs.Said.{refusal-by}
 use Rattle.rules.specs.declared.{Refusal.Refusal, Grid.Grid, Header.Header}
 use Rattle.rules.specs.Bounds.{listedMost, listedRoom}
 use Rattle.rules.specs.Table.{row, refusal, firstOr, first, accepted, filled}
@@ -21,7 +22,7 @@ use Rattle.rules.specs.Grid.{pointsOf}
 use Rattle.rules.specs.Bitmap.{Lent, markOf, valueOf}
 use Rattle.rules.specs.Points.{scattered}
 use Rattle.rules.specs.Chart.{pointOf}
-use Rattle.rules.specs.Reading.{pointsIn, presentIn, valuesIn, marksIn, parsedOf, foundBy, foundIn, refusedBy, answerBy, ownRefusal, messageTable, readTable, readRefusal, readOf, valuesAfter, marksAfter}
+use Rattle.rules.specs.Reading.{pointsIn, presentIn, valuesIn, marksIn, parsedOf, foundBy, foundIn, answerBy, ownRefusal, messageTable, readTable, readRefusal, readOf, valuesAfter, marksAfter}
 use Rattle.rules.specs.Listing.{noStore, decimal, hyphen, cell, stop, ended, line, joinedTo, rowLine, rowLines, firstLine, refusedLine, listingRefusal, listingOf}
 use Rattle.listing.specs.Text.{Wrote, counts, scales, textRoom, listed}
 use Rattle.listing.proofs.Cells.{point-lt}
@@ -65,11 +66,6 @@ rows-ext f h x y g e d =
     let p = pointOf (g .ni) (g .nj) (g .scan) (record { row = r; column = c }) in
     let l = point-lt (g .ni) (g .nj) (g .scan) (record { row = r; column = c }) lr lc in
     ap₂ (λ (a b : ℕ). ended (cond (eqb a 1) (decimal b) (hyphen ∷ [])) (stop (g .ni) c)) (e p l) (d p l)))
-
-refusal-by : (b : Bool) (r : Refusal) (x : Header) → x .refusal ≡ refusal 0 → accepted r ≡ b → cond b x (refusedBy r) .refusal ≡ r
-unfolding refusedBy
-refusal-by true r x e h = e ∙ ap refusal (sym (eqb-true (r .number) 0 h))
-refusal-by false r x e h = refl
 
 -- lists of as many elements
 same-room : (s : List ℕ) (lent : Lent) (a b c d : List ℕ) → length a ≡ length c → length b ≡ length d → readRefusal s lent a b ≡ readRefusal s lent c d

@@ -3,7 +3,7 @@ use mathlib.Core.Path.{_≡_, refl, sym, ap, _∙_, subst}
 use mathlib.Core.Bool.{Bool, true, false, cond}
 use mathlib.Core.List.{List}
 use Prim.Native.Nat.{ℕ}
-use lib.Dec.{T, eqb, eqb→eq}
+use lib.Dec.{T, eqb→eq}
 use borrow.Author.Tests.{eq-eqb, ne-eqb}
 use Rattle.rules.specs.declared.{Refusal.Refusal, Header.Header}
 use Rattle.rules.specs.Table.{refusal, accepted}
@@ -13,7 +13,7 @@ use Rattle.rules.specs.Bitmap.{Lent}
 use Rattle.rules.specs.Reading.{parsedOf, foundBy, foundIn, refusedBy, ownRefusal, answerBy, headerOf, gridOf, bitmapIn, pointsIn, presentCount, packingIn, scaleIn}
 
 -- the refusal in a header is the message's own
-refusal-by : (b : Bool) (r : Refusal) (x : Header) → x .refusal ≡ refusal 0 → accepted r ≡ b → cond b x (refusedBy r) .refusal ≡ r
+pub refusal-by : (b : Bool) (r : Refusal) (x : Header) → x .refusal ≡ refusal 0 → accepted r ≡ b → cond b x (refusedBy r) .refusal ≡ r
 unfolding refusedBy
 refusal-by true r x e h = let n : r .number ≡ 0 = eqb→eq (r .number) 0 (subst T (sym h) tt) in e ∙ ap refusal (sym n)
 refusal-by false r x e h = refl

@@ -4,6 +4,7 @@ ghost use mathlib.Core.Path.{_≡_};
 ghost use Prim.Native.Nat.{_+_, _*_, _/_, _≤_};
 ghost use lib.ListN.{length};
 ghost use Rattle.bits.specs.Bits.{count};
+ghost use Rattle.rules.specs.Bounds.{bitsMost};
 ghost use Rattle.rules.specs.Table.{first};
 ghost use Rattle.rules.specs.Bitmap.{markOf, valueOf};
 ghost use Rattle.rules.specs.Points.{gathered};
@@ -50,7 +51,7 @@ fn scaled(v: i32, mark: u8, r: i32, e: u8) -> u64
 
 // X at each point put, an absent one as no bits.
 fn put_scaled(numbers: &[i32], marks: &[u8], choice: Choice, bits: usize, out: &mut [u8])
-    requires { ⌜ bits ≤ 24 ⌝ }
+    requires { ⌜ bits ≤ bitsMost ⌝ }
     requires { ⌜ Listed (scaledFrom (now numbers) (now marks) (choice .reference) (choice .exponent)) (now marks) bits ⌝ }
     requires { ⌜ count (markOf (now marks)) 0 (length (now marks)) * bits / 8 + 4 ≤ length (now out) ⌝ }
     ensures { λ _. ⌜ Filled bits (gathered (markOf (now (marks .entry))) (valueOf (scaledFrom (now (numbers .entry)) (now (marks .entry)) (choice .reference) (choice .exponent))) (length (now (marks .entry)))) (now (out .entry)) (now (out .exit)) ⌝ }

@@ -1,27 +1,25 @@
 -- The contracts together: what was put is read back, what was packed is unpacked, and what was unpacked is packed to the octets it came from.
 use mathlib.Core.Path.{_≡_, refl, sym, ap, _∙_, subst}
-use mathlib.Core.Bool.{Bool, true, false, cond}
+use mathlib.Core.Bool.{Bool, true, cond}
 use mathlib.Core.List.{List, _++_}
 use mathlib.Core.Logic.{⊎-elim}
 use Prim.Native.Nat.{ℕ, zero, suc, _+_, _-_, _*_, _^_, _≤_, _<_}
 use native.Mathlib.Omega.{arith}
-use borrow.Author.Tests.{lt-ltb, le-ltb, le-leb, lt-leb, leb-true, ltb-true, ltb-false}
+use borrow.Author.Tests.{lt-ltb, le-ltb, le-leb, leb-true, ltb-true}
 use lib.Dec.{leb, ltb}
-use lib.IntN.{ℤ, pos, negsuc, negℤ, natAbs}
-use lib.Signed.{ltZ}
+use lib.IntN.{ℤ, pos, negsuc, natAbs}
 use lib.ListN.{length, take, drop, length-append, length-drop}
-use lib.Pow.{pow-pos}
 use lib.Seq.{take-at}
 use Rattle.bits.specs.Bits.{bitsIn, run, runs, octetsFor, numberAt, putAt, packedInto}
-use Rattle.bits.proofs.Runs.{bitsIn-bits, run-lt, lt-or-ge}
+use Rattle.bits.proofs.Runs.{bitsIn-bits, lt-or-ge}
 use Rattle.bits.proofs.Trip.{Wide, Padded, read-back, write-back, length-runs, wide-runs}
 use Rattle.bits.proofs.Placed.{number-back}
 use Rattle.bits.proofs.Kept.{put-back, lay}
-use Rattle.rules.specs.Numbers.{sign, spelled, signed, beyond, octets}
+use Rattle.rules.specs.Numbers.{sign, spelled, signed, octets}
 use Rattle.puts.specs.Put.{roomAt, putFits, putNumber, signedFits, putSigned, bitsFit, putBits}
 use Rattle.runs.specs.Take.{fetched, unpackFits, unpacked}
 use Rattle.puts.specs.Pack.{packFits, packed}
-use Rattle.bits.proofs.Tests.{and-left, and-right, or-left}
+use Rattle.bits.proofs.Tests.{and-left, and-right}
 use Rattle.octets.proofs.Signs.{spelled-lt}
 use Rattle.runs.proofs.Bits.{fetched-some}
 use Rattle.puts.proofs.Bits.{bits-width, bits-small}
@@ -75,12 +73,6 @@ spelled-signed c v h = ⊎-elim
   where
     more : (v : ℕ) → sign c ≤ v → (v ≡ sign c → ⊥) → v - sign c ≡ suc (v - sign c - 1)
     more v g h = omega arith
-
--- a magnitude that is not over a bound
-pub not-beyond : (m : ℕ) (z : ℤ) → beyond m z ≡ false → natAbs z ≤ m
-not-beyond m (pos n) h = ltb-false m n (or-left (ltb m n) (ltZ (pos n) (negℤ (pos m))) h)
-not-beyond zero (negsuc n) h = let e : _≡_ {A = ℕ} 0 1 = cc in absurd (omega arith)
-not-beyond (suc m) (negsuc n) h = omega (arith, ltb-false m n h)
 
 -- `put_signed_two` and `put_signed_three`, then `signed_two` and `signed_three`
 pub signed-read : (out : List ℕ) (p k c : ℕ) (z : ℤ) → 0 < c → signedFits out p k c z ≡ true

@@ -15,7 +15,7 @@ use lib.ListN.{length, getD, List·getD-eq-default}
 use Rattle.bits.specs.Bits.{octetsFor, packedInto}
 use Rattle.bits.specs.Tables.{anyBelow}
 use Rattle.bits.proofs.Runs.{lt-or-ge}
-use Rattle.bits.proofs.Fill.{none-below, all-fail}
+use Rattle.bits.proofs.Below.{none-below, no-below}
 use Rattle.bits.proofs.Trip.{Wide}
 use Rattle.bits.proofs.Tests.{and-left, and-right}
 use Rattle.puts.specs.Pack.{allBelow, packFits, packed}
@@ -61,7 +61,7 @@ below-wide n vs e k = ⊎-elim
 
 pub wide-below : (n : ℕ) (vs : List ℕ) → Wide n vs → allBelow n vs ≡ true
 unfolding allBelow
-wide-below n vs w = ap not (all-fail (λ k. leb (2 ^ n) (getD vs k 0)) (length vs) (λ k l. lt-leb (2 ^ n) (getD vs k 0) (w k)))
+wide-below n vs w = ap not (no-below (λ k. leb (2 ^ n) (getD vs k 0)) (length vs) (λ k l. lt-leb (2 ^ n) (getD vs k 0) (w k)))
 
 pub pack-takes : (n : ℕ) (vs : List ℕ) (room : ℕ) → n ≤ 24 → length vs < 2 ^ 32 → Wide n vs → octetsFor (length vs * n) ≤ room → packFits n vs room ≡ true
 unfolding packFits

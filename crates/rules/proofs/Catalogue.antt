@@ -1,8 +1,8 @@
 -- The catalogue's own sense, computed over the whole table: its corners, counts and steps agree, no row is refused, no number stands twice.
 use mathlib.Core.Path.{_≡_, refl}
 use mathlib.Core.Bool.{Bool, true, not, _&&_}
-use mathlib.Core.List.{List, [], _∷_, map}
-use Prim.Native.Nat.{ℕ, _-_, _*_}
+use mathlib.Core.List.{[], _∷_, map}
+use Prim.Native.Nat.{_-_, _*_}
 use lib.Dec.{eqb}
 use lib.IntN.{natAbs, _-ℤ_}
 use Rattle.rules.specs.declared.{Entry.Entry}

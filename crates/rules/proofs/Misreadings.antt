@@ -1,8 +1,8 @@
 -- Document 01, "Misreadings to exclude": for each, an example that the misreading would answer otherwise.
 use mathlib.Core.Path.{_≡_, refl}
-use mathlib.Core.List.{List, [], _∷_, _++_, map}
-use Prim.Native.Nat.{ℕ, _*_, _+_}
-use lib.IntN.{pos, negsuc}
+use mathlib.Core.List.{[], _∷_, _++_, map}
+use Prim.Native.Nat.{_*_, _+_}
+use lib.IntN.{negsuc}
 use lib.ListN.{set, take, drop}
 use Rattle.bits.specs.Bits.{bitsIn, run}
 use Rattle.rules.specs.Chart.{spotOf}

@@ -66,10 +66,10 @@ unfolding computes
 short-lists = refl
 
 -- a stored bitmap: its number, its octets and no padding rule; another number, or too few octets, is 10
-abbrev stored : List ℕ
+abbrev pub stored : List ℕ
 stored = set (set (set (set (take 72 specimen ++ (0 ∷ 7 ∷ drop 76 specimen)) 6 92) 70 6) 71 0) 4 0
 
-abbrev lends : ℕ → List ℕ → Lent
+abbrev pub lends : ℕ → List ℕ → Lent
 lends n octets = record { number = n; octets = octets }
 
 stores : map (λ l. headerOf stored l .refusal .number) (lends 7 (0xd0 ∷ []) ∷ lends 7 (0xdf ∷ 5 ∷ []) ∷ lends 8 (0xd0 ∷ []) ∷ lends 7 [] ∷ nothing ∷ []) ≡ 0 ∷ 0 ∷ 10 ∷ 10 ∷ 10 ∷ []

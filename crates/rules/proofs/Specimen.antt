@@ -1,15 +1,14 @@
 -- The specimen of document 01, computed: read, shown, taken apart, written, packed, checked, listed.
 use mathlib.Core.Path.{_≡_, refl}
-use mathlib.Core.List.{List, [], _∷_, _++_, map}
+use mathlib.Core.List.{[], _∷_, _++_, map}
 use mathlib.Core.Bool.{true, false}
-use Prim.Native.Nat.{ℕ}
 use lib.IntN.{ℤ, pos, negsuc}
 use lib.ListN.{take, drop}
 use lib.Ieee.{binary64, ofBits}
 use Rattle.rules.specs.declared.{Signed.Signed, Grid.Grid, Form.Form, Found.the-variants.Given, Bitmap.the-variants.Carried}
 use Rattle.rules.specs.Table.{refusal}
 use Rattle.rules.specs.Chart.{spotOf}
-use Rattle.rules.specs.Points.{Numbering, numbered, absent, outside}
+use Rattle.rules.specs.Points.{numbered, absent, outside}
 use Rattle.rules.specs.Reading.{headerOf, readOf, valuesAfter, marksAfter, bitmapOf, sectionOf, numberingOf}
 use Rattle.rules.specs.Display.{displayOf}
 use Rattle.rules.specs.Writing.{Parts, writeOf, outputAfter}

@@ -1,12 +1,12 @@
 -- Document 01, "BMS": which points are present, the bitmap in force, and refusal 10.
-use Prim.Native.Nat.{ℕ, zero, suc, _+_, _-_, _*_, _%_}
+use Prim.Native.Nat.{ℕ, _+_, _-_, _*_}
 use mathlib.Core.Bool.{Bool, true, false, not, cond}
-use mathlib.Core.List.{List, [], _∷_, _++_}
+use mathlib.Core.List.{List, [], _∷_}
 use lib.Dec.{ltb, eqb}
 use denote.Ref.{RefT}
 use lib.ListN.{length, getD}
 use Rattle.rules.specs.declared.{Part.Part, Bitmap.Bitmap, Bitmap.the-variants.Without, Bitmap.the-variants.Carried, Bitmap.the-variants.Stored}
-use Rattle.bits.specs.Bits.{bitsIn, runs, count, octetsFor}
+use Rattle.bits.specs.Bits.{bitsIn, runs, octetsFor}
 use Rattle.bits.specs.Tables.{tab}
 use Rattle.rules.specs.Numbers.{field, laid, evenFrom, octet, number}
 use Rattle.rules.specs.Places.{octetsOf, noPart, IsPart}

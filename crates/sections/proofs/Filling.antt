@@ -15,7 +15,8 @@ use Rattle.bits.proofs.Runs.{Bits, bitsIn-bits, run-split, run-ext, run-unit, n
 use Rattle.bits.proofs.Fill.{tab-of}
 use Rattle.bits.proofs.Trip.{Wide, length-runs, runs-ext, bits-past}
 use Rattle.bits.proofs.Next.{bits-left}
-use Rattle.bits.proofs.Placed.{run-zero, runs-split, runs-number, wide-snoc}
+use Rattle.bits.proofs.Placed.{run-zero, runs-split, runs-number}
+use Rattle.bits.proofs.Cut.{wide-snoc}
 use Rattle.bits.proofs.Ones.{count-le, count-mono}
 use Rattle.bits.proofs.Placing.{length-placed, number-placed}
 use Rattle.puts.specs.Put.{putNumber}
@@ -29,8 +30,8 @@ use Rattle.rules.specs.Points.{gathered}
 use Rattle.writable.specs.Listed.{Listed}
 use Rattle.sections.specs.Filling.{Filled}
 use Rattle.theorems.proofs.Fields.{laid-length}
-use Rattle.theorems.proofs.Gathered.{length-gathered, wide-gathered}
-use Rattle.sections.proofs.Gathered.{gathered-in, gathered-out, gathered-all}
+use Rattle.theorems.proofs.Gathered.{length-gathered, wide-gathered, gathered-in, gathered-out}
+use Rattle.sections.proofs.Gathered.{gathered-all}
 use Rattle.sections.proofs.Placing.{number-put, length-octets, placed-after, placed-from, part-whole, part-rest}
 
 back : (a b : ℕ) → a ≤ b → a + (b - a) ≡ b

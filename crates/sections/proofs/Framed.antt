@@ -16,7 +16,7 @@ use Rattle.rules.specs.Bounds.{pdsMost, pointsMost}
 use Rattle.rules.specs.Numbers.{octets}
 use Rattle.rules.specs.Table.{anyOf}
 use Rattle.rules.specs.Bitmap.{markOf}
-use Rattle.reply.proofs.Stages.{left-false, right-false}
+use Rattle.bits.proofs.Tests.{or-left, or-right}
 use Rattle.writable.specs.Rows.{scaleFaults}
 use Rattle.writable.proofs.Accepted.{scale-ok}
 use Rattle.sections.specs.declared.{Frame.Frame}
@@ -48,13 +48,13 @@ module _ (pds : List ℕ) (form : Form) (scale : Scale) (marks : List ℕ) where
   pub sound-of : unsound pds form scale marks ≡ false → Sound
   unfolding unsound
   sound-of h =
-      let a = left-false ((far || many) || givenBad (form .grid)) off h in
-      let b = left-false (far || many) (givenBad (form .grid)) a in
-      let s = scale-ok scale (form .packing) (right-false ((far || many) || givenBad (form .grid)) off h) in
+      let a = or-left ((far || many) || givenBad (form .grid)) off h in
+      let b = or-left (far || many) (givenBad (form .grid)) a in
+      let s = scale-ok scale (form .packing) (or-right ((far || many) || givenBad (form .grid)) off h) in
       record {
-        pds-most = ltb-false pdsMost (length pds) (left-false far many b);
-        few = ltb-false pointsMost (length marks) (right-false far many b);
-        given = right-false (far || many) (givenBad (form .grid)) a;
+        pds-most = ltb-false pdsMost (length pds) (or-left far many b);
+        few = ltb-false pointsMost (length marks) (or-right far many b);
+        given = or-right (far || many) (givenBad (form .grid)) a;
         e = s .e;
         flags = s .flags;
         bits = s .bits;
@@ -155,7 +155,7 @@ module _ (pds : List ℕ) (form : Form) (scale : Scale) (marks : List ℕ) where
               at = ap (λ (x : Frame). x .at) q;
               present = ap (λ (x : Frame). x .present) q;
               len = ap (λ (x : Frame). x .len) q;
-              room = ltb-false (length out) (lengthIn pds form marks) (right-false (unsound pds form scale marks) (ltb (length out) (lengthIn pds form marks)) h);
+              room = ltb-false (length out) (lengthIn pds form marks) (or-right (unsound pds form scale marks) (ltb (length out) (lengthIn pds form marks)) h);
               is = sym (all h .1);
               held = bds-held (form .packing .bits) (presentIn marks) (k .bits) (omega (arith, present-few marks, k .few));
             }

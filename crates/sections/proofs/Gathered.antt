@@ -1,10 +1,9 @@
--- The values at present points, one present or one absent point at a time.
+-- The values at present points where every point is present.
 use mathlib.Core.Path.{_≡_, refl, sym, ap, _∙_}
 use Prim.Native.Nat.{ℕ, zero, suc, _+_, _<_}
 use mathlib.Core.List.{List, [], _∷_, _++_}
-use native.Mathlib.Numerals.{add-one}
 use native.Mathlib.Omega.{arith}
-use borrow.Author.Tests.{eq-eqb, ne-eqb}
+use borrow.Author.Tests.{eq-eqb}
 use Rattle.bits.specs.Bits.{count}
 use Rattle.bits.specs.Tables.{tab}
 use Rattle.bits.proofs.Runs.{Bits}
@@ -12,14 +11,6 @@ use Rattle.bits.proofs.Ones.{count-le}
 use Rattle.rules.specs.Points.{gathered}
 
 module _ (f : ℕ → ℕ) (b : Bits f) (v : ℕ → ℕ) where
-  pub gathered-in : (m : ℕ) → f m ≡ 1 → gathered f v (m + 1) ≡ gathered f v m ++ (v m ∷ [])
-  unfolding gathered
-  gathered-in m h = rw (add-one, eq-eqb (f m) 1 h)
-
-  pub gathered-out : (m : ℕ) → (f m ≡ 1 → ⊥) → gathered f v (m + 1) ≡ gathered f v m
-  unfolding gathered
-  gathered-out m h = rw (add-one, ne-eqb (f m) 1 h)
-
   -- with every point present, the values are all of them
   pub gathered-all : (m : ℕ) → count f 0 m ≡ m → gathered f v m ≡ tab v m
   unfolding gathered count tab

@@ -17,9 +17,10 @@ use Rattle.rules.specs.Grid.{gridFields, gdsOf, gridFaults}
 use Rattle.rules.specs.Bitmap.{bmsOf}
 use Rattle.rules.specs.Values.{bdsOf}
 use Rattle.rules.specs.Writing.{gdsFor}
-use Rattle.reply.proofs.Stages.{failed}
+use Rattle.theorems.proofs.Rows.{none-of}
 use Rattle.theorems.proofs.Whole.{within}
 use Rattle.theorems.proofs.Fields.{laid-length}
+use Rattle.theorems.proofs.GridSection.{gds-length}
 use Rattle.theorems.proofs.DataSection.{bds-length}
 use Rattle.sections.specs.Layout.{shapeFields, cornerFields, stepFields, bmsFields, gdsRoom, bmsRoom, bdsRoom, frontRoom, messageRoom}
 use Rattle.sections.proofs.Placing.{laid-both, three-placed}
@@ -72,7 +73,7 @@ pub record Small (g : Grid) : Type 0 where
 pub grid-small : (g : Grid) → anyOf (gridFaults g) ≡ false → Small g
 unfolding gridFaults
 grid-small g e =
-    let f = failed (gridFaults g) e in
+    let f = none-of (gridFaults g) e in
     let h = f .1 .1 .1 in
     record {
       la1 = omega (arith, within 90000 (g .la1 .value) (h .0));
@@ -82,10 +83,6 @@ grid-small g e =
     }
 
 -- the rooms are lengths
-pub gds-length : (g : Grid) → length (gdsOf g) ≡ 32
-unfolding gdsOf gridFields
-gds-length g = laid-length (gridFields g) []
-
 pub gds-room : (f : Found) → length (gdsFor f) ≡ gdsRoom f
 unfolding gdsRoom
 gds-room Nothing = refl

@@ -7,6 +7,7 @@ ghost use lib.IntN.{natAbs};
 ghost use lib.ListN.{length};
 ghost use Rattle.bits.specs.Bits.{bitsIn, runs, octetsFor, placed};
 ghost use Rattle.rules.specs.declared.Bitmap.the-variants.{Carried};
+ghost use Rattle.rules.specs.Bounds.{pointsMost, bitsMost};
 ghost use Rattle.rules.specs.Table.{anyOf};
 ghost use Rattle.rules.specs.Numbers.{octets, laid, evenFrom};
 ghost use Rattle.rules.specs.Grid.{gridFaults, gdsOf};
@@ -142,7 +143,7 @@ fn put_bms(out: &mut [u8], b: usize, len: u32, unused: u8, number: u16)
 // c octets of marks, eight to an octet, the first leftmost, and zeros after the last mark.
 fn put_marks(marks: &[u8], out: &mut [u8], at: usize, c: usize)
     requires { ⌜ at + c ≤ length (now out) ⌝ }
-    requires { ⌜ c ≤ 65536 ⌝ }
+    requires { ⌜ c ≤ pointsMost ⌝ }
     ensures { λ _. ⌜ now (out .exit) ≡ placed (now (out .entry)) at (runs (bitsIn 1 (now (marks .entry))) 0 8 c) ⌝ }
 {
     let mut k: usize = 0;
@@ -160,7 +161,7 @@ fn put_marks(marks: &[u8], out: &mut [u8], at: usize, c: usize)
 
 // A BMS whose bits follow.
 fn put_carried(out: &mut [u8], b: usize, marks: &[u8])
-    requires { ⌜ length (now marks) ≤ 65536 ⌝ }
+    requires { ⌜ length (now marks) ≤ pointsMost ⌝ }
     requires { ⌜ b + evenFrom (6 + octetsFor (length (now marks))) ≤ length (now out) ⌝ }
     ensures { λ _. ⌜ now (out .exit) ≡ placed (now (out .entry)) b (bmsOf Carried (markOf (now (marks .entry))) (length (now (marks .entry)))) ⌝ }
 {
@@ -173,7 +174,7 @@ fn put_carried(out: &mut [u8], b: usize, marks: &[u8])
 
 // The BMS, and the place after it.
 fn put_bitmap(out: &mut [u8], b: usize, bitmap: Bitmap, marks: &[u8]) -> usize
-    requires { ⌜ length (now marks) ≤ 65536 ⌝ }
+    requires { ⌜ length (now marks) ≤ pointsMost ⌝ }
     requires { ⌜ b + bmsRoom bitmap (length (now marks)) ≤ length (now out) ⌝ }
     ensures { λ r. ⌜ r ≡ b + bmsRoom bitmap (length (now (marks .entry))) ⌝ }
     ensures { λ _. ⌜ now (out .exit) ≡ placed (now (out .entry)) b (bmsOf bitmap (markOf (now (marks .entry))) (length (now (marks .entry)))) ⌝ }
@@ -193,7 +194,7 @@ fn put_bitmap(out: &mut [u8], b: usize, bitmap: Bitmap, marks: &[u8]) -> usize
 
 // All that stands before the data section of a message of len octets, and the place after it.
 pub(crate) fn lay_front(pds: &[u8], form: Form, marks: &[u8], len: u32, out: &mut [u8]) -> usize
-    requires { ⌜ length (now marks) ≤ 65536 ⌝ }
+    requires { ⌜ length (now marks) ≤ pointsMost ⌝ }
     requires { ⌜ len < 2 ^ 24 ⌝ }
     requires { ⌜ frontRoom (length (now pds)) form (length (now marks)) ≤ length (now out) ⌝ }
     requires { ⌜ givenBad (form .grid) ≡ false ⌝ }
@@ -224,10 +225,10 @@ fn put_bds(out: &mut [u8], d: usize, len: u32, flags: u8, e: Signed, r: u32, bit
 
 // What stands in the BDS of m values at place d before its data, and the data's last octet, which may be padding, cleared.
 pub(crate) fn put_head(packing: Packing, scale: Scale, m: u32, out: &mut [u8], d: usize)
-    requires { ⌜ packing .bits ≤ 24 ⌝ }
+    requires { ⌜ packing .bits ≤ bitsMost ⌝ }
     requires { ⌜ packing .flags ≤ 2 ⌝ }
     requires { ⌜ natAbs (scale .e .value) < 32768 ⌝ }
-    requires { ⌜ m ≤ 65536 ⌝ }
+    requires { ⌜ m ≤ pointsMost ⌝ }
     requires { ⌜ d + bdsRoom (packing .bits) m ≤ length (now out) ⌝ }
     ensures { λ _. ⌜ now (out .exit) ≡ placed (placed (now (out .entry)) d (headBy packing scale m)) (d + (bdsRoom (packing .bits) m - 1)) (octets 1 0) ⌝ }
 {

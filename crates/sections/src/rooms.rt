@@ -5,6 +5,7 @@ ghost use Prim.Native.Nat.{_+_, _^_, _<_, _≤_};
 ghost use lib.Dec.{eqb};
 ghost use lib.ListN.{length};
 ghost use Rattle.bits.specs.Bits.{octetsFor, count};
+ghost use Rattle.rules.specs.Bounds.{pdsMost, pointsMost, bitsMost};
 ghost use Rattle.rules.specs.Bitmap.{markOf};
 ghost use Rattle.rules.specs.Numbers.{evenFrom};
 ghost use Rattle.sections.specs.Layout.{presentIn, gdsRoom, bmsRoom, bdsRoom, messageRoom};
@@ -49,8 +50,8 @@ fn bms_room(bitmap: Bitmap, n: u32) -> usize
 
 // How many octets a BDS of m values takes.
 pub(crate) fn bds_room(bits: u8, m: u32) -> usize
-    requires { ⌜ bits ≤ 24 ⌝ }
-    requires { ⌜ m ≤ 65536 ⌝ }
+    requires { ⌜ bits ≤ bitsMost ⌝ }
+    requires { ⌜ m ≤ pointsMost ⌝ }
     ensures { λ r. ⌜ r ≡ bdsRoom bits m ⌝ }
 {
     even(11 + (m as usize * bits as usize + 7) / 8)
@@ -58,10 +59,10 @@ pub(crate) fn bds_room(bits: u8, m: u32) -> usize
 
 // How many octets a message takes.
 pub(crate) fn message_room(pds: usize, form: Form, n: u32, m: u32) -> usize
-    requires { ⌜ pds ≤ 1024 ⌝ }
-    requires { ⌜ n ≤ 65536 ⌝ }
-    requires { ⌜ m ≤ 65536 ⌝ }
-    requires { ⌜ form .packing .bits ≤ 24 ⌝ }
+    requires { ⌜ pds ≤ pdsMost ⌝ }
+    requires { ⌜ n ≤ pointsMost ⌝ }
+    requires { ⌜ m ≤ pointsMost ⌝ }
+    requires { ⌜ form .packing .bits ≤ bitsMost ⌝ }
     ensures { λ r. ⌜ r ≡ messageRoom pds form n m ⌝ }
 {
     let grid = form.grid;
@@ -94,7 +95,7 @@ fn some_present(marks: &[u8], p: usize, c: usize) -> u8
 
 // How many points the marks call present.
 pub(crate) fn present(marks: &[u8]) -> u32
-    requires { ⌜ length (now marks) ≤ 65536 ⌝ }
+    requires { ⌜ length (now marks) ≤ pointsMost ⌝ }
     ensures { λ r. ⌜ r ≡ presentIn (now (marks .entry)) ⌝ }
 {
     let mut m: u32 = 0;

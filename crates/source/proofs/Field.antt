@@ -12,7 +12,8 @@ use mir.Syntax.{w32}
 use mir.Val.{toZ, ofZ}
 use mir.Facts.{toZ-ofZ}
 use Rattle.bits.specs.Tables.{anyBelow}
-use Rattle.bits.proofs.Below.{or-false, any-next}
+use Rattle.bits.proofs.Below.{any-next}
+use Rattle.bits.proofs.Tests.{or-false}
 use Rattle.rules.specs.Bounds.{pointsMost, sourceMost}
 use Rattle.rules.specs.Numbers.{outside, beyond}
 use Rattle.rules.specs.Table.{anyOf, orAll}

@@ -14,7 +14,7 @@ use mir.Syntax.{w32}
 use mir.Val.{toZ, ofZ}
 use mir.Facts.{toZ-pos}
 use Rattle.bits.proofs.Runs.{lt-or-ge}
-use Rattle.bits.proofs.Below.{or-false}
+use Rattle.bits.proofs.Tests.{or-false}
 use Rattle.rules.specs.Bounds.{sourceMost}
 use Rattle.rules.specs.Values.{sOf, aOf, bOf, unit, sizeOf, whole, wholeOf}
 use Rattle.octets.proofs.Signs.{neg-back}

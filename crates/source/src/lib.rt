@@ -15,7 +15,7 @@ pub use whole::whole_bad;
 pub use whole::whole_of;
 
 // Whether a number is outside its bound.
-pub(crate) fn large(v: i32) -> bool
+pub fn large(v: i32) -> bool
     ensures { λ r. ⌜ r ≡ beyond sourceMost v ⌝ }
 {
     (SOURCE_MOST < v) | (v < -SOURCE_MOST)

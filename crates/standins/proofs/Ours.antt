@@ -6,11 +6,10 @@ use mathlib.Core.List.{List}
 use borrow.Author.Tests.{eqb-true}
 use lib.Dec.{T}
 use lib.ListN.{length}
-use Rattle.bits.specs.Bits.{count}
 use Rattle.rules.specs.declared.{Refusal.Refusal}
 use Rattle.rules.specs.Table.{refusal, accepted, filled}
 use Rattle.rules.specs.Bitmap.{Lent}
-use Rattle.rules.specs.Reading.{pointsIn, presentIn, presentCount, parsedOf, foundBy, foundIn, refusedBy, answerBy, readRefusal, readOf, valuesAfter, marksAfter}
+use Rattle.rules.specs.Reading.{presentCount, foundBy, foundIn, refusedBy, answerBy, readRefusal, readOf, valuesAfter, marksAfter}
 use Rattle.rules.specs.Writing.{lengthOf, writeRefusal, writeOf, outputAfter}
 use Rattle.rules.specs.Checking.{checkOf}
 use Rattle.rules.specs.Packing.{packRefusal, packOf, packedAfter}

@@ -16,7 +16,8 @@ use Rattle.bits.proofs.Runs.{Bits, bitsIn-bits, lt-or-ge}
 use Rattle.bits.proofs.Fill.{length-tab}
 use Rattle.bits.proofs.Trip.{Wide, length-runs, bits-runs, bits-past}
 use Rattle.bits.proofs.Cut.{cut, bits-drop, bits-take, octets-here}
-use Rattle.bits.proofs.Marks.{wide-tab, mark-bit, zeros-of, of-zeros}
+use Rattle.bits.proofs.Marks.{wide-tab, mark-bit, zeros-of}
+use Rattle.bits.proofs.Ones.{count-zero}
 use Rattle.rules.specs.declared.{Part.Part, Bitmap.Bitmap, Bitmap.the-variants.Without, Bitmap.the-variants.Carried, Bitmap.the-variants.Stored}
 use Rattle.rules.specs.Bounds.{bmsLeast, pointsMost}
 use Rattle.rules.specs.Numbers.{Field, field, laid, evenFrom, octet, number}
@@ -132,7 +133,7 @@ module _ (s : List ℕ) (lent : Lent) (k : ℕ) (f : ℕ → ℕ) (n : ℕ) (res
   map-clean Carried h =
       let u : octet s k 4 ≡ 8 * (mapLen n - 6) - n = carried-back h .2 .1 refl in
       let l = length-tab f n in
-      not-eq _ _ (of-zeros (bitsIn 8 s) ((k + 6) * 8 + n) (octet s k 4) (λ i q.
+      not-eq _ _ (count-zero (bitsIn 8 s) ((k + 6) * 8 + n) (octet s k 4) (λ i q.
       let e : (k + 6) * 8 + n + i ≡ (k + 6) * 8 + (n + i) = omega arith in
       ap (bitsIn 8 s) e ∙ bits-drop (k + 6) s (n + i) ∙ bit-back h (n + i) (omega arith) ∙ bits-past 1 (tab f n) (n + i) (wide-tab f n b) (omega arith)))
 

@@ -20,7 +20,8 @@ use Rattle.rules.specs.Reading.{layoutRows, gridRows, dataRows, parsedOf, earli
 use Rattle.rules.specs.Checking.{Source, numberOf, presentOf, sourceFaults, decimalDiffers, sourceDiffers, scaleFaults, farFrom, pointOut, checkTable, checkOf}
 use Rattle.theorems.specs.Replies.{Clear}
 use Rattle.theorems.specs.Checks.{AtPresent, Agrees, InRange, Near, Passes, CheckExactly}
-use Rattle.theorems.proofs.Rows.{clear, clear-parts, accepts, taken-by, first-after, none-of, any-none, or-false, or-none, is-eq, not-eq}
+use Rattle.bits.proofs.Tests.{or-false, or-none}
+use Rattle.theorems.proofs.Rows.{clear, clear-parts, accepts, taken-by, first-after, none-of, any-none, is-eq, not-eq}
 use Rattle.theorems.proofs.Judged.{rows}
 use Rattle.theorems.proofs.Whole.{ltZ-antisym, ltZ-irrefl, natural}
 use Rattle.theorems.proofs.Sources.{at-none, none-at, well-formed, formed-well}

@@ -14,7 +14,8 @@ use Rattle.bits.specs.Bits.{bitsIn, runs, octetsFor}
 use Rattle.bits.proofs.Runs.{bitsIn-bits, lt-or-ge}
 use Rattle.bits.proofs.Trip.{Wide, length-runs, runs-ext, bits-runs, bits-past, runs-own, wide-runs}
 use Rattle.bits.proofs.Cut.{cut, bits-drop, octets-here}
-use Rattle.bits.proofs.Marks.{zeros-of, of-zeros}
+use Rattle.bits.proofs.Marks.{zeros-of}
+use Rattle.bits.proofs.Ones.{count-zero}
 use Rattle.rules.specs.declared.{Packing.Packing, Scale.Scale}
 use Rattle.rules.specs.Bounds.{bdsLeast, pointsMost, bitsMost}
 use Rattle.rules.specs.Numbers.{Field, field, signedField, laid, evenFrom, octet, number, sign}
@@ -119,7 +120,7 @@ module _ (s : List ℕ) (k : ℕ) (p : Packing) (c : Scale) (xs rest : List ℕ)
   pub data-clean : dataPaddingSet s k (length (bdsOf p c xs)) t ≡ false
   data-clean =
       let l = bds-length p c xs in
-      not-eq _ _ (of-zeros (bitsIn 8 s) ((k + 11) * 8 + t) (8 * (length (bdsOf p c xs) - 11) - t) (λ i q.
+      not-eq _ _ (count-zero (bitsIn 8 s) ((k + 11) * 8 + t) (8 * (length (bdsOf p c xs) - 11) - t) (λ i q.
       let e : (k + 11) * 8 + t + i ≡ (k + 11) * 8 + (t + i) = omega arith in
       ap (bitsIn 8 s) e ∙ bit-back (t + i) (omega arith) ∙ bits-past (p .bits) xs (t + i) (o .wide) (omega arith)))
 

@@ -29,11 +29,11 @@ pub number-lt : (f : ℕ → ℕ) (i m : ℕ) → f i ≡ 1 → i < m → count 
 number-lt f i m t l = omega (arith, count-one f i t, count-mono f 0 (i + 1) m (omega arith))
 
 module _ (f : ℕ → ℕ) (b : Bits f) (v : ℕ → ℕ) where
-  gathered-in : (m : ℕ) → f m ≡ 1 → gathered f v (m + 1) ≡ gathered f v m ++ (v m ∷ [])
+  pub gathered-in : (m : ℕ) → f m ≡ 1 → gathered f v (m + 1) ≡ gathered f v m ++ (v m ∷ [])
   unfolding gathered
   gathered-in m h = rw (add-one, eq-eqb (f m) 1 h)
 
-  gathered-out : (m : ℕ) → (f m ≡ 1 → ⊥) → gathered f v (m + 1) ≡ gathered f v m
+  pub gathered-out : (m : ℕ) → (f m ≡ 1 → ⊥) → gathered f v (m + 1) ≡ gathered f v m
   unfolding gathered
   gathered-out m h = rw (add-one, ne-eqb (f m) 1 h)
 

@@ -55,7 +55,7 @@ grid-fit g o =
     let top = sign 3 + sign 3 in
     (omega arith, (omega arith, (omega arith, (omega arith, (f .0, (f .1, (spelled-lt 3 top (g .la1 .value) refl (o .la1), (spelled-lt 3 top (g .lo1 .value) refl (o .lo1), (f .2, (spelled-lt 3 top (g .la2 .value) refl (o .la2), (spelled-lt 3 top (g .lo2 .value) refl (o .lo2), (f .3, (f .4, (f .5, (omega arith, tt)))))))))))))))
 
-gds-length : (g : Grid) → length (gdsOf g) ≡ gdsLength
+pub gds-length : (g : Grid) → length (gdsOf g) ≡ gdsLength
 unfolding gridFields
 gds-length g = ap length (gds-laid g) ∙ laid-length (gridFields g) []
 

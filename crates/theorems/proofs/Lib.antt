@@ -27,6 +27,7 @@ pub mod WriteBack
 pub mod Exactly
 pub mod Needed
 pub mod Ignored
+pub mod Lead
 pub mod Shown
 -- the check and the packer
 pub mod Sources

@@ -12,7 +12,8 @@ use lib.Signed.{ltZ}
 use lib.ListN.{length}
 use Rattle.bits.specs.Bits.{count}
 use Rattle.bits.proofs.Below.{upto}
-use Rattle.bits.proofs.Marks.{count-pos, of-zeros}
+use Rattle.bits.proofs.Marks.{count-pos}
+use Rattle.bits.proofs.Ones.{count-zero}
 use Rattle.rules.specs.Bounds.{sourceMost}
 use Rattle.rules.specs.Checking.{Source, numberOf, presentOf}
 use Rattle.rules.specs.Packing.{lowest, reference, above}
@@ -80,7 +81,7 @@ module _ (f : Source) where
 
   reference-none : ((i : ℕ) → i < length (f .numbers) → presentOf f i ≡ 0) → reference f ≡ pos 0
   unfolding reference
-  reference-none h = ap (λ (k : ℕ). cond (eqb k 0) (pos 0) lows) (of-zeros (presentOf f) 0 (length (f .numbers)) (λ i l. h (0 + i) (omega arith)))
+  reference-none h = ap (λ (k : ℕ). cond (eqb k 0) (pos 0) lows) (count-zero (presentOf f) 0 (length (f .numbers)) (λ i l. h (0 + i) (omega arith)))
 
   reference-is : (i : ℕ) → i < length (f .numbers) → presentOf f i ≡ 1 → reference f ≡ lows
   unfolding reference

@@ -27,7 +27,8 @@ use Rattle.rules.specs.Values.{packingFaults}
 use Rattle.rules.specs.Writing.{Parts, gridFor, pointsFor, pdsFaults, listsFit, storedFaults, gridGiven, pointBad, differ, partsFaults, message, writeTable, writeRefusal}
 use Rattle.theorems.specs.Replies.{Clear}
 use Rattle.theorems.specs.Returns.{NumberFits}
-use Rattle.theorems.proofs.Rows.{NoneOf, clear, accepts, none-of, any-none, or-false, and-false, clash, both, is-eq, inside}
+use Rattle.bits.proofs.Tests.{or-false, both}
+use Rattle.theorems.proofs.Rows.{NoneOf, clear, accepts, none-of, any-none, and-false, clash, is-eq, inside}
 use Rattle.theorems.proofs.Whole.{within}
 use Rattle.theorems.proofs.Laid.{Sec, whole-sec}
 use Rattle.theorems.proofs.Gathered.{length-gathered, wide-gathered}
@@ -65,23 +66,23 @@ same true false e = e
 same false true e = sym e
 same false false e = refl
 
-flags-small : (f : ℕ) (a b : Bool) → eqb f 0 ≡ a → eqb f 2 ≡ b → not (a || b) ≡ false → f < 16
-flags-small f true b p q e = omega (arith, eqb-true f 0 p)
-flags-small f false true p q e = omega (arith, eqb-true f 2 q)
-flags-small f false false p q e = clash true refl e
+pub flags-two : (f : ℕ) (a b : Bool) → eqb f 0 ≡ a → eqb f 2 ≡ b → not (a || b) ≡ false → f ≤ 2
+flags-two f true b p q e = omega (arith, eqb-true f 0 p)
+flags-two f false true p q e = omega (arith, eqb-true f 2 q)
+flags-two f false false p q e = clash true refl e
 
 -- what row 13 leaves of a point
-record PointOk (bitmap : Bool) (bits m v : ℕ) : Type 0 where
-  mark : m < 2
-  absent : m ≡ 0 → (bitmap ≡ true) × (v ≡ 0)
-  value : v < 2 ^ bits
+pub record PointOk (bitmap : Bool) (bits m v : ℕ) : Type 0 where
+  pub mark : m < 2
+  pub absent : m ≡ 0 → (bitmap ≡ true) × (v ≡ 0)
+  pub value : v < 2 ^ bits
 
 absent-ok : (bitmap : Bool) (mark value : ℕ) → (eqb mark 0 && (not bitmap || not (eqb value 0))) ≡ false → mark ≡ 0 → (bitmap ≡ true) × (value ≡ 0)
 absent-ok bitmap mark value e z =
     let h = or-false (not bitmap) (not (eqb value 0)) (and-false (eqb mark 0) _ (eq-eqb mark 0 z) e) in
     (not-false bitmap (h .0), is-eq value 0 (h .1))
 
-point-ok : (bitmap : Bool) (bits mark value : ℕ) → pointBad bitmap bits mark value ≡ false → PointOk bitmap bits mark value
+pub point-ok : (bitmap : Bool) (bits mark value : ℕ) → pointBad bitmap bits mark value ≡ false → PointOk bitmap bits mark value
 unfolding pointBad
 point-ok bitmap bits mark value e =
     let h = or-false (ltb 1 mark || (eqb mark 0 && (not bitmap || not (eqb value 0)))) (leb (2 ^ bits) value) e in
@@ -124,7 +125,7 @@ module _ (w : Parts) (out : List ℕ) (nf : NumberFits (w .form .bitmap)) (rf : 
 
   flags-lt : w .form .packing .flags < 16
   unfolding packingFaults
-  flags-lt = flags-small (w .form .packing .flags) _ _ refl refl (pack-none .1 .0)
+  flags-lt = omega (arith, flags-two (w .form .packing .flags) _ _ refl refl (pack-none .1 .0))
 
   bits-most : w .form .packing .bits ≤ bitsMost
   unfolding packingFaults

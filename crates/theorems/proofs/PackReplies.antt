@@ -24,7 +24,8 @@ use Rattle.rules.specs.Checking.{Source, sourceFaults, decimalDiffers}
 use Rattle.rules.specs.Packing.{exponent, packed, packTable, packRefusal}
 use Rattle.theorems.specs.Replies.{Among, onceTable, PackerOnce}
 use Rattle.theorems.specs.Checks.{NothingFits, NoStepReply}
-use Rattle.theorems.proofs.Rows.{none-of, any-none, is-true, or-false}
+use Rattle.bits.proofs.Tests.{or-false}
+use Rattle.theorems.proofs.Rows.{none-of, any-none, is-true}
 use Rattle.theorems.proofs.Replies.{reply-among}
 use Rattle.theorems.proofs.Whole.{ltZ-antisym, beyond-no}
 use Rattle.theorems.proofs.Sources.{well-formed, formed-well}

@@ -29,7 +29,8 @@ use Rattle.rules.specs.Checking.{Source, numberOf, presentOf, sourceFaults, dec
 use Rattle.rules.specs.Packing.{reference, spellingOf, stepped, above, exponent, packedAt, packed, packTable, packRefusal, packOf, packedAfter}
 use Rattle.theorems.specs.Reads.{Taken}
 use Rattle.theorems.specs.Checks.{AtPresent, WellFormed, Agrees, InRange, Near, PackedPasses, Packable, PackExactly}
-use Rattle.theorems.proofs.Rows.{passed, accepts, taken-by, or-false}
+use Rattle.bits.proofs.Tests.{or-false}
+use Rattle.theorems.proofs.Rows.{passed, accepts, taken-by}
 use Rattle.theorems.proofs.Replies.{handed-is}
 use Rattle.theorems.proofs.Told.{decimal-same}
 use Rattle.theorems.proofs.Whole.{ltZ-antisym}

@@ -1,16 +1,17 @@
 -- Demand 2: the scanning flags draw each point where they say, and a chart's place and a grid point's number determine each other; one law of division for either order of the points, one of turning a direction.
-use Prim.Native.Nat.{ℕ, zero, suc, _+_, _*_, _/_, _%_, _<_}
+use Prim.Native.Nat.{ℕ, _+_, _*_, _/_, _%_, _<_}
 use mathlib.Core.Bool.{Bool, true, false, _&&_, cond}
 use mathlib.Core.Path.{_≡_, refl, sym, subst, _∙_, ap}
 use native.Mathlib.Omega.{arith}
-use native.Mathlib.Nat.{mul-comm, mod-lt, div-add-mod', div-lt-iff-lt-mul, not-suc-le-zero, mul-zero}
+use native.Mathlib.Nat.{mul-comm, mod-lt, div-add-mod', div-lt-iff-lt-mul}
 use borrow.Author.Tests.{lt-ltb, ltb-true}
 use lib.Dec.{ltb}
 use lib.Arith.{digits-lt, digits-div, digits-mod}
 use Rattle.rules.specs.declared.{GridPoint.GridPoint, Spot.Spot, Charted.the-variants.On, Charted.the-variants.Off, Pointed.the-variants.At, Pointed.the-variants.Off as Nowhere}
 use Rattle.rules.specs.Chart.{west, north, byColumn, turned, spotOf, pointOf, charted, pointed}
 use Rattle.theorems.specs.Reads.{ChartDrawn, PlacePoint, PlacePointAnswers}
-use Rattle.theorems.proofs.Rows.{both}
+use Rattle.bits.proofs.Products.{left-positive, right-positive}
+use Rattle.bits.proofs.Tests.{both}
 
 turned-lt : (t : Bool) (n i : ℕ) → i < n → turned t n i < n
 unfolding turned
@@ -36,16 +37,12 @@ ordered : (b : Bool) (ni nj j i : ℕ) → j < nj → i < ni → (order b ni nj 
 ordered true ni nj j i hj hi = (digits-lt hi hj, digits-mod i hj, digits-div i hj)
 ordered false ni nj j i hj hi = (subst (λ (x : ℕ). j * ni + i < x) (mul-comm nj ni) (digits-lt hj hi), digits-div j hi, digits-mod j hi)
 
-positive : (w h k : ℕ) → k < w * h → 0 < w
-positive zero h k l = absurd (not-suc-le-zero (subst (λ (x : ℕ). k < x) (mul-comm 0 h ∙ mul-zero h) l))
-positive (suc w) h k l = omega arith
-
 parted : (b : Bool) (ni nj k : ℕ) → k < ni * nj → (rowIn b ni nj k < nj) × (columnIn b ni nj k < ni) × (order b ni nj (rowIn b ni nj k) (columnIn b ni nj k) ≡ k)
 parted true ni nj k l =
-    let p = positive nj ni k (subst (λ (x : ℕ). k < x) (mul-comm ni nj) l) in
+    let p = right-positive ni nj k l in
     (mod-lt k p, div-lt-iff-lt-mul p .1 l, div-add-mod' k nj)
 parted false ni nj k l =
-    let p = positive ni nj k l in
+    let p = left-positive ni nj k l in
     (div-lt-iff-lt-mul p .1 (subst (λ (x : ℕ). k < x) (mul-comm ni nj) l), mod-lt k p, div-add-mod' k ni)
 
 pub chart-drawn : ChartDrawn

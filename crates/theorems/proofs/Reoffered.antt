@@ -29,7 +29,8 @@ use Rattle.rules.specs.Reading.{gridIn, gridOf, pointsIn, bitmapIn, inForceIn, 
 use Rattle.rules.specs.Writing.{Parts, gridFor, pointsFor, pdsFaults, listsFit, storedFaults, gridGiven, pointBad, differ, partsFaults, message, writeRefusal}
 use Rattle.rules.specs.RoundTrip.{partsIn}
 use Rattle.theorems.specs.Reads.{Taken}
-use Rattle.theorems.proofs.Rows.{none-of, any-none, or-none, gated, not-eq, outside-no, taken-by}
+use Rattle.bits.proofs.Tests.{or-none}
+use Rattle.theorems.proofs.Rows.{none-of, any-none, gated, not-eq, outside-no, taken-by}
 use Rattle.theorems.proofs.Judged.{Judged, judged}
 use Rattle.theorems.proofs.Tiles.{Sections, sections}
 use Rattle.theorems.proofs.Whole.{beyond-no}

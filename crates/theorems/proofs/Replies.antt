@@ -1,8 +1,8 @@
 -- Demand 1: a table gives the reply of its first row that applies, and no number but its rows', by induction on it; a refusal keeps every lent list and an accepted call
--- writes its front alone, by the definition of `filled`; and what is said by equations is determined.
+-- writes its front alone, by the definition of `filled`; an answer is whole, by that of `answered`.
 use Prim.Native.Nat.{ℕ, _<_}
 use mathlib.Core.Bool.{Bool, true, false, cond}
-use mathlib.Core.Path.{_≡_, refl, sym, _∙_, ap}
+use mathlib.Core.Path.{_≡_, refl, _∙_, ap}
 use mathlib.Core.Logic.{_⊎_, inl, inr}
 use mathlib.Core.List.{List, [], _∷_, _++_}
 use native.Mathlib.Omega.{arith}
@@ -11,13 +11,13 @@ use lib.Dec.{T}
 use lib.ListN.{length, take, drop}
 use lib.Seq.{take-append-seam, drop-append-seam}
 use Rattle.rules.specs.declared.{Refusal.Refusal}
-use Rattle.rules.specs.Table.{Row, given, refusal, accepted, firstOr, first, filled}
-use Rattle.rules.specs.Reading.{layoutRows, gridRows, dataRows, parsedOf, earlierRows, messageTable, ownRefusal, foundIn, refusedBy, answerBy, headerOf, readTable}
-use Rattle.rules.specs.Display.{displayTable}
-use Rattle.rules.specs.Writing.{lengthOf, writeTable}
+use Rattle.rules.specs.Table.{Row, given, refusal, accepted, firstOr, first, answered, filled}
+use Rattle.rules.specs.Reading.{layoutRows, gridRows, dataRows, parsedOf, earlierRows, messageTable, ownRefusal, answerBy, headerOf, readTable, readRefusal, readOf, bitmapOf, numberingOf}
+use Rattle.rules.specs.Display.{displayTable, displayOf}
+use Rattle.rules.specs.Writing.{lengthOf, writeTable, writeRefusal, writeOf}
 use Rattle.rules.specs.Checking.{checkTable}
-use Rattle.rules.specs.Packing.{packTable}
-use Rattle.theorems.specs.Replies.{Clear, Stops, RefusalFirst, numbers, Among, ReplyAmong, RowNumbers, TakenOrRefused, RefusalKeeps, AcceptedFills, ReplyDetermined, ResultDetermined}
+use Rattle.rules.specs.Packing.{packTable, packRefusal, packOf}
+use Rattle.theorems.specs.Replies.{Clear, Stops, RefusalFirst, numbers, Among, ReplyAmong, RowNumbers, Whole, TakenOrRefused, RefusalKeeps, AcceptedFills}
 use Rattle.theorems.proofs.Rows.{is-true}
 
 on-top : (test : Bool) (r : Refusal) (rows : List Row) → (Clear rows × (first rows ≡ refusal 0)) ⊎ Stops rows (first rows)
@@ -73,22 +73,25 @@ row-numbers = record {
   packer = λ pds form lent f out. refl;
 }
 
-pub taken-or-refused : TakenOrRefused
-unfolding headerOf answerBy
-taken-or-refused s lent = go (accepted (ownRefusal s lent)) refl
+-- what is answered by a reply: found or zeros
+whole : {A : Type 0} (r : Refusal) (found zeros : A) → Whole r found zeros (answered r found zeros)
+whole {A} r found zeros = go (accepted r) refl
   where
-    r : Refusal
-    r = ownRefusal s lent
-
     positive : (n : ℕ) → (n ≡ 0 → ⊥) → 0 < n
     positive n h = omega arith
 
-    go : (b : Bool) → accepted r ≡ b → ((r ≡ refusal 0) × (cond (accepted r) (foundIn s lent) (refusedBy r) ≡ foundIn s lent)) ⊎ ((0 < r .number) × (cond (accepted r) (foundIn s lent) (refusedBy r) ≡ refusedBy r))
-    go true e = inl ((λ i. record { number = eqb-true (r .number) 0 e i }), ap (λ (b : Bool). cond b (foundIn s lent) (refusedBy r)) e)
-    go false e = inr (positive (r .number) (eqb-false (r .number) 0 e), ap (λ (b : Bool). cond b (foundIn s lent) (refusedBy r)) e)
+    go : (b : Bool) → accepted r ≡ b → Whole r found zeros (answered r found zeros)
+    go true e = inl ((λ i. record { number = eqb-true (r .number) 0 e i }), ap (λ (b : Bool). cond b found zeros) e)
+    go false e = inr (positive (r .number) (eqb-false (r .number) 0 e), ap (λ (b : Bool). cond b found zeros) e)
 
-pub reply-determined : ReplyDetermined
-reply-determined I A f i a b p q = p ∙ sym q
-
-pub result-determined : ResultDetermined
-result-determined I A f g i a b p q = λ j. record { reply = (p .0 ∙ sym (q .0)) j; lists = (p .1 ∙ sym (q .1)) j }
+pub taken-or-refused : TakenOrRefused
+unfolding headerOf readOf answerBy displayOf bitmapOf numberingOf writeOf packOf lengthOf
+taken-or-refused = record {
+  header = λ s lent. whole (ownRefusal s lent) _ _;
+  read = λ s lent values marks. whole (readRefusal s lent values marks) _ _;
+  display = λ s lent. whole (first (displayTable s lent)) _ _;
+  bitmap = λ s lent. whole (ownRefusal s lent) _ _;
+  number = λ s lent i. whole (ownRefusal s lent) _ _;
+  write = λ w out. (refl, whole (writeRefusal w out) _ _);
+  pack = λ pds form lent f out. (refl, whole (packRefusal pds form lent f out) _ _);
+}

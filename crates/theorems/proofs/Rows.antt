@@ -10,6 +10,7 @@ use Rattle.rules.specs.declared.{Refusal.Refusal}
 use Rattle.rules.specs.Numbers.{outside}
 use Rattle.rules.specs.Table.{Row, given, refusal, accepted, firstOr, first, orAll, anyOf}
 use Rattle.theorems.specs.Replies.{Clear}
+use Rattle.bits.proofs.Tests.{or-false, or-none}
 
 -- the rows of a table all have a number that is not acceptance's
 abbrev pub Numbered : List Row → Type 0
@@ -51,13 +52,6 @@ taken-by r e = subst (λ (x : Refusal). T (accepted x)) (sym e) tt
 abbrev pub NoneOf : List Bool → Type 0
 NoneOf [] = Unit
 NoneOf (a ∷ tests) = (a ≡ false) × NoneOf tests
-
-pub or-false : (a b : Bool) → (a || b) ≡ false → (a ≡ false) × (b ≡ false)
-or-false true b e = (e, absurd (subst T e tt))
-or-false false b e = (refl, e)
-
-pub or-none : (a b : Bool) → a ≡ false → b ≡ false → (a || b) ≡ false
-or-none a b e f = simp (e, f)
 
 or-all : (a : Bool) (tests : List Bool) → orAll a tests ≡ false → (a ≡ false) × NoneOf tests
 unfolding orAll
@@ -103,10 +97,6 @@ and-false a b t e = ap (λ (x : Bool). x && b) (sym t) ∙ e
 pub gated : (b x : Bool) → (b ≡ true → x ≡ false) → (b && x) ≡ false
 gated true x h = h refl
 gated false x h = refl
-
-pub both : (a b : Bool) → (a && b) ≡ true → (a ≡ true) × (b ≡ true)
-both true b e = (refl, e)
-both false b e = absurd (subst T (sym e) tt)
 
 pub is-eq : (a b : ℕ) → not (eqb a b) ≡ false → a ≡ b
 is-eq a b e = eqb→eq a b (not-not (eqb a b) e)

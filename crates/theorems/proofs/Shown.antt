@@ -1,50 +1,20 @@
 -- The two doubles of a display are exactly R and 2^E: each pattern's sign, exponent's field and digits are read off it, and the fraction they make is the one asked for.
-use mathlib.Core.Path.{_≡_, refl, sym, ap, _∙_, subst}
+use mathlib.Core.Path.{_≡_, refl, sym, ap, _∙_}
 use mathlib.Core.Bool.{Bool, false}
 use Prim.Native.Nat.{ℕ, zero, suc, _+_, _-_, _*_, _/_, _%_, _^_, _≤_, _<_}
-use native.Mathlib.Nat.{mul-assoc, mul-one, one-mul, mul-right-comm, mul-le-mul-right, eq-of-mul-eq-mul-right, pow-suc, lt-of-not-le, lt-irrefl, lt-of-lt-of-le, lt-of-le-of-lt}
+use native.Mathlib.Nat.{mul-assoc, mul-one, one-mul, mul-right-comm, eq-of-mul-eq-mul-right, pow-suc}
 use native.Mathlib.Omega.{arith}
 use lib.Dec.{leb, eqb}
 use lib.IntN.{pos, negsuc}
-use lib.Pow.{pow-add, pow-pos, pow-mono, shl-lt}
-use lib.Count.{leadingZeros, leading-top}
+use lib.Pow.{pow-add, pow-pos}
+use lib.Count.{leadingZeros}
 use borrow.Author.Tests.{le-leb, lt-leb, ne-eqb}
 use lib.Ieee.{Float, nan, inf, fin, binary64, up, down, ofFields, ofBits}
 use lib.Ieee.Exact.{HasValue, odd-sign}
 use Rattle.rules.specs.Values.{sOf, aOf, bOf, sizeOf, unit}
 use Rattle.rules.specs.Display.{refBits, stepBits, shownReference, shownStep}
 use Rattle.theorems.specs.Reads.{ShownExactly}
-
--- z leading zeros of 32: the leading digit of B, under 2^24, comes to stand at weight 2^52
-record Lead (b z : ℕ) : Type 0 where
-  least : 8 ≤ z
-  most : z ≤ 31
-  low : 2 ^ 52 ≤ b * 2 ^ (21 + z)
-  high : b * 2 ^ (21 + z) < 2 ^ 53
-
-pow-lt-back : (i p : ℕ) → 2 ^ i < 2 ^ p → i < p
-pow-lt-back i p h = lt-of-not-le (λ (g : p ≤ i). lt-irrefl (2 ^ i) (lt-of-lt-of-le h (pow-mono g)))
-
-lead : (b : ℕ) → 0 < b → b < 2 ^ 24 → Lead b (leadingZeros 32 b)
-lead b n h =
-    let z = leadingZeros 32 b in
-    let t = leading-top 32 b (omega arith) (omega arith) in
-    let j = t .0 in
-    let few : j < 24 = pow-lt-back j 24 (lt-of-le-of-lt (t .2) h) in
-    let sum : z + suc j ≡ 32 = t .1 in
-    let e52 : j + (21 + z) ≡ 52 = omega arith in
-    let e53 : suc j + (21 + z) ≡ 53 = omega arith in
-    record {
-      least = omega arith;
-      most = omega arith;
-      low = subst (λ (x : ℕ). x ≤ b * 2 ^ (21 + z)) (sym (pow-add 2 j (21 + z)) ∙ ap (λ (x : ℕ). 2 ^ x) e52) (mul-le-mul-right (2 ^ (21 + z)) (t .2));
-      high = subst (λ (x : ℕ). b * 2 ^ (21 + z) < 2 ^ x) e53 (shl-lt (suc j) (21 + z) (t .3));
-    }
-
-ref-is : (s a b : ℕ) → 0 < b → refBits s a b ≡ s * 2 ^ 63 + ((4 * a + 773 - leadingZeros 32 b) * 2 ^ 52 + b * 2 ^ (21 + leadingZeros 32 b))
-unfolding refBits
-ref-is s a zero n = absurd (omega arith)
-ref-is s a (suc b) n = refl
+use Rattle.theorems.proofs.Lead.{lead, some}
 
 -- a sign, a field from 1 to 2046 and 52 digits are read as those
 fields : (s : Bool) (x t n : ℕ) → x < 2046 → leb (2 ^ 63) n ≡ s → n % 2 ^ 63 / 2 ^ 52 ≡ suc x → n % 2 ^ 52 ≡ t → HasValue (ofBits binary64 n) s ((2 ^ 52 + t) * 2 ^ x) (2 ^ 1074)
@@ -74,14 +44,14 @@ sign (suc (suc s)) r k hs e h = absurd (omega arith)
 ref-exact : (s a b : ℕ) → s < 2 → a < 128 → 0 < b → b < 2 ^ 24 → HasValue (ofBits binary64 (refBits s a b)) (eqb s 1) (b * 16 ^ a) (2 ^ 280)
 ref-exact s a b hs ha nz hb =
     let z = leadingZeros 32 b in
-    let l = lead b nz hb in
+    let l = lead b (λ e. omega arith) hb in
     let m = b * 2 ^ (21 + z) in
     let lo : 2 ^ 52 ≤ m = l .low in
     let hi : m < 2 ^ 53 = l .high in
     let least : 8 ≤ z = l .least in
     let most : z ≤ 31 = l .most in
     let x = 4 * a + 773 - z in
-    let is : refBits s a b ≡ s * 2 ^ 63 + (x * 2 ^ 52 + m) = ref-is s a b nz in
+    let is : refBits s a b ≡ s * 2 ^ 63 + (x * 2 ^ 52 + m) = some s a b (λ e. omega arith) in
     let back : 2 ^ 52 + (m - 2 ^ 52) ≡ m = omega arith in
     let all : 21 + z + x ≡ 4 * a + 794 = omega arith in
     let even : (2 ^ 52 + (m - 2 ^ 52)) * 2 ^ x * 2 ^ 280 ≡ b * 16 ^ a * 2 ^ 1074 =

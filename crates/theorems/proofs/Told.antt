@@ -21,7 +21,8 @@ use Rattle.rules.specs.Reading.{pointsIn, presentIn, presentCount, packingIn, s
 use Rattle.rules.specs.Writing.{pointsFor}
 use Rattle.rules.specs.RoundTrip.{partsIn}
 use Rattle.theorems.specs.Reads.{Taken, Tells, ReadTells}
-use Rattle.theorems.proofs.Rows.{accepts, taken-by, first-after, is-true, or-none}
+use Rattle.bits.proofs.Tests.{or-none}
+use Rattle.theorems.proofs.Rows.{accepts, taken-by, first-after, is-true}
 use Rattle.theorems.proofs.Lists.{filled-front}
 use Rattle.theorems.proofs.Judged.{rows}
 use Rattle.theorems.proofs.Tiles.{reads-inside}

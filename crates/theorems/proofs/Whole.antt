@@ -9,7 +9,7 @@ use lib.Dec.{T, ltb}
 use lib.IntN.{ℤ, pos, negsuc, negℤ, natAbs, subℕ, _-ℤ_}
 use lib.Signed.{ltZ}
 use Rattle.rules.specs.Numbers.{beyond}
-use Rattle.theorems.proofs.Rows.{or-false, or-none}
+use Rattle.bits.proofs.Tests.{or-false, or-none}
 
 -- what a difference of two naturals says in size, and a bound on twice that
 sub-size : (a b h : ℕ) → a ≤ b + h → b ≤ a + h → natAbs (subℕ a b) ≤ h

@@ -6,14 +6,16 @@ use mathlib.Core.Bool.{true, false, cond}
 use mathlib.Core.List.{List, [], _∷_, _++_}
 use lib.Dec.{T, eqb}
 use lib.ListN.{length, take, drop}
+use lib.Ieee.{binary64, ofBits}
 use Rattle.rules.specs.declared.{Refusal.Refusal, Form.Form}
 use Rattle.rules.specs.Table.{Row, given, refusal, accepted, first, filled}
-use Rattle.rules.specs.Bitmap.{Lent}
-use Rattle.rules.specs.Reading.{messageTable, ownRefusal, foundIn, refusedBy, headerOf, readTable}
-use Rattle.rules.specs.Display.{displayTable}
-use Rattle.rules.specs.Writing.{Parts, writeTable, lengthOf}
+use Rattle.rules.specs.Bitmap.{Lent, noBitmap}
+use Rattle.rules.specs.Points.{dataNumber, outside}
+use Rattle.rules.specs.Reading.{messageTable, ownRefusal, foundIn, refusedBy, headerOf, readTable, readRefusal, readOf, scaleIn, inForceIn, bitmapOf, presentIn, pointsIn, numberingOf}
+use Rattle.rules.specs.Display.{displayTable, displayOf, shownReference, shownStep}
+use Rattle.rules.specs.Writing.{Parts, message, writeTable, writeRefusal, writeOf, lengthOf}
 use Rattle.rules.specs.Checking.{Source, checkTable}
-use Rattle.rules.specs.Packing.{packed, packTable, packRefusal}
+use Rattle.rules.specs.Packing.{packed, packTable, packRefusal, packOf}
 
 -- no row of a table applies
 abbrev pub Clear : List Row → Type 0
@@ -66,10 +68,25 @@ PackerOnce =
     (pds : List ℕ) (form : Form) (lent : Lent) (f : Source) (out : List ℕ)
     → (packRefusal pds form lent f out ≡ first (onceTable pds form lent f out)) × (numbers (onceTable pds form lent f out) ≡ 5 ∷ 18 ∷ 15 ∷ 11 ∷ 19 ∷ 6 ∷ 7 ∷ 9 ∷ 10 ∷ 13 ∷ 14 ∷ [])
 
--- "A message is either taken whole or refused with a number", "with all counts and fields zero"
-abbrev pub TakenOrRefused : Type 0
-TakenOrRefused = (s : List ℕ) (lent : Lent)
-    → ((ownRefusal s lent ≡ refusal 0) × (headerOf s lent ≡ foundIn s lent)) ⊎ ((0 < ownRefusal s lent .number) × (headerOf s lent ≡ refusedBy (ownRefusal s lent)))
+-- "A message is either taken whole or refused with a number": what is answered is all that was found, with reply 0, or with another reply zeros
+abbrev pub Whole : {A : Type 0} → Refusal → A → A → A → Type 0
+Whole r found zeros answer = ((r ≡ refusal 0) × (answer ≡ found)) ⊎ ((0 < r .number) × (answer ≡ zeros))
+
+-- "Every other reply returns its number with all counts and fields zero", whatever was asked for
+pub record TakenOrRefused : Type 0 where
+  pub header : (s : List ℕ) (lent : Lent) → Whole (ownRefusal s lent) (foundIn s lent) (refusedBy (ownRefusal s lent)) (headerOf s lent)
+  pub read : (s : List ℕ) (lent : Lent) (values marks : List ℕ)
+      → let r = readRefusal s lent values marks in
+      Whole r (foundIn s lent) (refusedBy r) (readOf s lent values marks)
+  pub display : (s : List ℕ) (lent : Lent)
+      → let r = first (displayTable s lent) in
+      Whole r (record { refusal = r; reference = shownReference (scaleIn s .r); step = shownStep (scaleIn s .e .value) }) (record { refusal = r; reference = ofBits binary64 0; step = ofBits binary64 0 }) (displayOf s lent)
+  pub bitmap : (s : List ℕ) (lent : Lent) → Whole (ownRefusal s lent) (inForceIn s) noBitmap (bitmapOf s lent)
+  pub number : (s : List ℕ) (lent : Lent) (i : ℕ) → Whole (ownRefusal s lent) (dataNumber (presentIn s lent) (pointsIn s) i) outside (numberingOf s lent i)
+  pub write : (w : Parts) (out : List ℕ) → (writeOf w out .refusal ≡ writeRefusal w out) × Whole (writeRefusal w out) (length (message w)) 0 (writeOf w out .len)
+  pub pack : (pds : List ℕ) (form : Form) (lent : Lent) (f : Source) (out : List ℕ)
+      → let r = packRefusal pds form lent f out in
+      (packOf pds form lent f out .refusal ≡ r) × Whole r (length (message (packed pds form lent f))) 0 (packOf pds form lent f out .len)
 
 -- "and no lent element changes", whatever would have been written
 abbrev pub RefusalKeeps : Type 0
@@ -83,23 +100,3 @@ pub record Filled (r : Refusal) (front lent : List ℕ) : Type 0 where
 
 abbrev pub AcceptedFills : Type 0
 AcceptedFills = (r : Refusal) (front lent : List ℕ) → T (accepted r) → Filled r front lent
-
--- "any two results it allows are proved identical": of what a contract allows there is at most one
-abbrev pub Determined : {A : Type 0} → (A → Type 0) → Type 0
-Determined {A} allows = (a b : A) → allows a → allows b → a ≡ b
-
--- what a call gives back: its reply, and the lists lent to it as they are afterwards
-pub record Result (A : Type 0) : Type 0 where
-  pub reply : A
-  pub lists : List (List ℕ)
-
--- a contract that says by an equation each what the reply and the lists are
-abbrev pub Allows : {A : Type 0} → A → List (List ℕ) → Result A → Type 0
-Allows reply lists r = (r .reply ≡ reply) × (r .lists ≡ lists)
-
--- whatever function of the inputs the reply is, and whatever the lists are
-abbrev pub ReplyDetermined : Type 1
-ReplyDetermined = (I A : Type 0) (f : I → A) (i : I) → Determined (λ (r : A). r ≡ f i)
-
-abbrev pub ResultDetermined : Type 1
-ResultDetermined = (I A : Type 0) (f : I → A) (g : I → List (List ℕ)) (i : I) → Determined (Allows (f i) (g i))

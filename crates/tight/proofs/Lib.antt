@@ -30,4 +30,5 @@ pub mod Sections
 pub mod Writer
 pub mod Packer
 -- the C face
+pub mod Records
 pub mod Grib1

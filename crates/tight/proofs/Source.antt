@@ -19,3 +19,6 @@ pub «whole_of» : Tight contracts.whole_of.ended λ M. contracts.whole_of.claus
 
 pub spelling : Tight contracts.spelling.ended λ M. contracts.spelling.clauses
 spelling k g h x y ws vs = by-reply k refl
+
+pub large : Tight contracts.large.ended λ M. contracts.large.clauses
+large k g h x y ws vs = by-reply k refl

@@ -1,12 +1,12 @@
 -- What the rows leave of the parts once none of them but 14 can apply: each field's bound, and each point's.
 use mathlib.Core.Path.{_≡_, refl, sym, ap, _∙_, subst}
-use mathlib.Core.Bool.{Bool, true, false, not, _&&_, _||_, true≢false}
+use mathlib.Core.Bool.{Bool, false, _&&_}
 use mathlib.Core.List.{List}
 use mathlib.Core.Logic.{⊎-elim}
 use Prim.Native.Nat.{ℕ, _^_, _≤_, _<_}
 use native.Mathlib.Omega.{arith}
-use borrow.Author.Tests.{ltb-false, leb-false, eqb-true, eq-eqb, not-false}
-use lib.Dec.{ltb, leb, eqb}
+use borrow.Author.Tests.{ltb-false, eqb-true, not-false}
+use lib.Dec.{ltb, eqb}
 use lib.IntN.{natAbs}
 use lib.Pow.{pow-pos}
 use lib.ListN.{length, getD, List·getD-eq-default}
@@ -19,38 +19,24 @@ use Rattle.rules.specs.Grid.{theGrid, gridFaults, pointsOf}
 use Rattle.rules.specs.Bitmap.{Lent, bitmapGiven, markOf, valueOf}
 use Rattle.rules.specs.Values.{packingFaults}
 use Rattle.rules.specs.Writing.{pdsFaults, listsFit, pointBad}
-use Rattle.theorems.proofs.Rows.{both}
+use Rattle.bits.proofs.Tests.{both, or-right}
 use Rattle.theorems.proofs.Whole.{within}
-use Rattle.reply.proofs.Stages.{left-false, right-false, passed, failed}
+use Rattle.reply.proofs.Stages.{passed}
+use Rattle.theorems.proofs.Rows.{none-of}
+use Rattle.theorems.proofs.Offered.{flags-two, point-ok as pointKept}
 use Rattle.writable.specs.Rows.{frontRows, scaleFaults, middleRows, earlyRows, pointsBad, listFaults, ownRows}
 use Rattle.writable.specs.Listed.{Listed}
 
 -- 13 at one point
-absent : (bitmap : Bool) (mark value : ℕ) → (eqb mark 0 && (not bitmap || not (eqb value 0))) ≡ false → mark ≡ 0 → value ≡ 0
-absent bitmap mark value e z =
-    let t : (not bitmap || not (eqb value 0)) ≡ false = ap (λ (x : Bool). x && (not bitmap || not (eqb value 0))) (sym (eq-eqb mark 0 z)) ∙ e in
-    eqb-true value 0 (not-false (eqb value 0) (right-false (not bitmap) (not (eqb value 0)) t))
-
 pub record PointOk (bits m v : ℕ) : Type 0 where
   pub mark : m < 2
   pub away : m ≡ 0 → v ≡ 0
   pub value : v < 2 ^ bits
 
 point-ok : (bitmap : Bool) (bits mark value : ℕ) → pointBad bitmap bits mark value ≡ false → PointOk bits mark value
-unfolding pointBad
 point-ok bitmap bits mark value e =
-    let gap = eqb mark 0 && (not bitmap || not (eqb value 0)) in
-    let h = left-false (ltb 1 mark || gap) (leb (2 ^ bits) value) e in
-    record {
-      mark = omega (arith, ltb-false 1 mark (left-false (ltb 1 mark) gap h));
-      away = absent bitmap mark value (right-false (ltb 1 mark) gap h);
-      value = leb-false (2 ^ bits) value (right-false (ltb 1 mark || gap) (leb (2 ^ bits) value) e);
-    }
-
-flags-two : (flags : ℕ) (a b : Bool) → eqb flags 0 ≡ a → eqb flags 2 ≡ b → not (a || b) ≡ false → flags ≤ 2
-flags-two flags true b p q e = omega (arith, eqb-true flags 0 p)
-flags-two flags false true p q e = omega (arith, eqb-true flags 2 q)
-flags-two flags false false p q e = absurd (true≢false e)
+    let p = pointKept bitmap bits mark value e in
+    record { mark = p .mark; away = λ z. p .absent z .1; value = p .value }
 
 -- what 11 leaves
 pub record ScaleOk (scale : Scale) (packing : Packing) : Type 0 where
@@ -61,7 +47,7 @@ pub record ScaleOk (scale : Scale) (packing : Packing) : Type 0 where
 pub scale-ok : (scale : Scale) (packing : Packing) → anyOf (scaleFaults scale packing) ≡ false → ScaleOk scale packing
 unfolding scaleFaults packingFaults
 scale-ok scale packing h =
-    let d = failed (scaleFaults scale packing) h in
+    let d = none-of (scaleFaults scale packing) h in
     record {
       e = omega (arith, within exponentMost (scale .e .value) (d .0));
       flags = flags-two (packing .flags) _ _ refl refl (d .1 .0);
@@ -83,13 +69,13 @@ unfolding ownRows earlyRows frontRows middleRows listFaults pdsFaults gridFaults
 accepted-of pds form scale lent values marks found n r e z =
     let p = passed (ownRows pds form scale lent values marks found n) (tt, (tt, (tt, (tt, (tt, (tt, (tt, tt))))))) (ap (λ (q : Refusal). q .number) (sym e) ∙ z) in
     let g = p .1 .1 .1 in
-    let a = failed (pdsFaults pds) (p .0) in
-    let c = failed (gridFaults (theGrid found)) (g .0) in
-    let q = failed (listFaults pds form values marks n) (g .1 .1 .1 .0) in
+    let a = none-of (pdsFaults pds) (p .0) in
+    let c = none-of (gridFaults (theGrid found)) (g .0) in
+    let q = none-of (listFaults pds form values marks n) (g .1 .1 .1 .0) in
     let fit = not-false (eqb (length values) n && eqb (length marks) n) (q .0) in
     record {
-      pds-most = ltb-false pdsMost (length pds) (right-false (ltb (length pds) pdsLeast) (ltb pdsMost (length pds)) (a .1 .0));
-      points-most = ltb-false pointsMost (pointsOf (theGrid found)) (right-false (ltb (pointsOf (theGrid found)) 1) (ltb pointsMost (pointsOf (theGrid found))) (c .1 .1 .0));
+      pds-most = ltb-false pdsMost (length pds) (or-right (ltb (length pds) pdsLeast) (ltb pdsMost (length pds)) (a .1 .0));
+      points-most = ltb-false pointsMost (pointsOf (theGrid found)) (or-right (ltb (pointsOf (theGrid found)) 1) (ltb pointsMost (pointsOf (theGrid found))) (c .1 .1 .0));
       grid = g .0;
       scaled = g .1 .1 .0;
       values-long = eqb-true (length values) n (both (eqb (length values) n) (eqb (length marks) n) fit .0);

@@ -4,7 +4,7 @@ use mathlib.Core.Bool.{Bool, true, false, not, cond, _&&_, _||_}
 use mathlib.Core.List.{List, [], _∷_}
 use Prim.Native.Nat.{ℕ, _+_, _-_, _/_, _%_, _^_, _≤_}
 use native.Mathlib.Omega.{arith}
-use lib.Dec.{ltb, leb, eqb}
+use lib.Dec.{ltb, eqb}
 use lib.ListN.{length, getD}
 use borrow.Author.Tests.{ltb-false, eqb-true}
 use Rattle.bits.specs.Bits.{bitOf, bitsIn, octetsFor}
@@ -16,9 +16,9 @@ use Rattle.rules.specs.Numbers.{beyond}
 use Rattle.rules.specs.Places.{hasGrid, hasBitmap}
 use Rattle.rules.specs.Bitmap.{Lent, lentFaults, bitmapGiven, markOf}
 use Rattle.rules.specs.Values.{flagsBad, packingFaults}
-use Rattle.rules.specs.Writing.{listsFit, storedFaults, gridGiven, pointBad}
-use Rattle.theorems.proofs.Rows.{both}
-use Rattle.reply.proofs.Stages.{right-false, stop, go-on, passed, failed}
+use Rattle.rules.specs.Writing.{listsFit, storedFaults, gridGiven}
+use Rattle.bits.proofs.Tests.{both, or-right}
+use Rattle.reply.proofs.Stages.{stop, go-on}
 use Rattle.writable.specs.Rows.{frontRows, marksDiffer, scaleFaults, middleRows, earlyRows, pointsBad, listFaults, ownRows}
 
 pub marks-none : (store marks : List ℕ) → false ≡ marksDiffer store marks 0
@@ -73,7 +73,7 @@ pub store-room : (lent : Lent) (wanted : ℕ) (t : Bool) (marks : List ℕ) (n :
     → t && eqb (length marks) n ≡ true → (n ≤ length marks) × (octetsFor n ≤ length (lent .octets))
 store-room lent wanted t marks n e f =
     let m = eqb-true (length marks) n (both t (eqb (length marks) n) f .1) in
-    let s = ltb-false (length (lent .octets)) (octetsFor n) (right-false (eqb wanted 0 || not (eqb (lent .number) wanted)) (ltb (length (lent .octets)) (octetsFor n)) e) in
+    let s = ltb-false (length (lent .octets)) (octetsFor n) (or-right (eqb wanted 0 || not (eqb (lent .number) wanted)) (ltb (length (lent .octets)) (octetsFor n)) e) in
     (omega arith, s)
 
 -- 11: one test, and then the others

@@ -1,4 +1,4 @@
--- Refusal 10 of a carried bitmap: the list of tests opened, by congruence.
+-- Refusal 10 of a carried bitmap: the list of tests opened, call by call.
 use Rattle.rules.specs.Table.{anyOf, orAll}
 use Rattle.rules.specs.Bitmap.{bitmapFaults}
 use borrow.Author.Needs.{needs}
@@ -7,7 +7,7 @@ use Rattle.bitmap.proofs.carried_bad.Tie as tie
 
 returns : tie.Need-returns
 unfolding anyOf orAll bitmapFaults
-returns c = cc
+returns c = rw (c .less .ensures, c .before .octet .ensures)
 
 pub carried-bad-spec : {M : Type 1} → statement M
 carried-bad-spec =

@@ -1,4 +1,4 @@
--- The number of a place: both counts stay below their bounds, so the products fit; then by congruence over the calls.
+-- The number of a place: both counts stay below their bounds, so the products fit; then call by call.
 use Rattle.rules.specs.Chart.{pointOf}
 use Rattle.chart.proofs.Laws.{columns-fit, rows-fit}
 use native.Mathlib.Omega.{arith}
@@ -20,7 +20,7 @@ add-pick-2 c = record { fits = rows-fit _ _ _ _ _ _ _ _ (c .before .turned .ensu
 
 returns : tie.Need-returns
 unfolding pointOf
-returns c = cc
+returns c = rw (c .pick .ensures, c .before .turned2 .ensures, c .before .before .turned .ensures)
 
 pub point-spec : {M : Type 1} → statement M
 point-spec =

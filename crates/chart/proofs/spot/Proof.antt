@@ -1,4 +1,4 @@
--- Row and column of a number: the definition opened, by congruence over the calls.
+-- Row and column of a number: the definition opened, call by call.
 use Rattle.rules.specs.Chart.{spotOf}
 use borrow.Author.Needs.{needs}
 use Rattle.chart.proofs.spot.Statement.{statement}
@@ -6,7 +6,7 @@ use Rattle.chart.proofs.spot.Tie as tie
 
 returns : tie.Need-returns
 unfolding spotOf
-returns c = cc
+returns c = rw (c .turned2 .ensures, c .before .turned .ensures, c .before .before .pick2 .ensures, c .before .before .before .pick .ensures)
 
 pub spot-spec : {M : Type 1} → statement M
 spot-spec =

@@ -2,7 +2,7 @@
 use Rattle.rules.specs.Chart.{charted}
 use Rattle.bits.proofs.Products.{product}
 use borrow.Author.Tests.{lt-ltb, le-ltb}
-use Rattle.chart.proofs.Laws.{left, right}
+use Rattle.bits.proofs.Products.{left-positive, right-positive}
 use native.Mathlib.Omega.{arith}
 use Rattle.chart.proofs.spot_of.Statement.{statement}
 use Rattle.chart.proofs.spot_of.Tie as tie
@@ -11,7 +11,7 @@ mul-if1 : tie.Need-mul-if1
 mul-if1 c = record { fits = product 65535 65535 4294967296 tt _ _ (omega arith) (omega arith) }
 
 spot-requires : tie.Need-spot-requires
-spot-requires c κs = (left _ _ _ (c .if1 .taken), right _ _ _ (c .if1 .taken))
+spot-requires c κs = (left-positive _ _ _ (c .if1 .taken), right-positive _ _ _ (c .if1 .taken))
 
 returns : tie.Need-returns
 unfolding charted

@@ -1,7 +1,7 @@
 -- The part below, as a record.
 use mathlib.Core.Path.{_∙_, ap}
 use Rattle.parts.specs.declared.{Force.Force}
-use Rattle.grib1.specs.Records.{partBy}
+use Rattle.records.specs.Records.{partBy}
 use borrow.Author.Needs.{needs}
 use Rattle.grib1.proofs.grib1_bitmap.Statement.{statement}
 use Rattle.grib1.proofs.grib1_bitmap.Tie as tie

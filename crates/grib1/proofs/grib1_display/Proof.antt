@@ -1,6 +1,6 @@
 -- The display below, as a record.
 use mathlib.Core.Path.{_∙_, ap}
-use Rattle.grib1.specs.Records.{displayRecord}
+use Rattle.records.specs.Records.{displayRecord}
 use borrow.Author.Needs.{needs}
 use Rattle.grib1.proofs.grib1_display.Statement.{statement}
 use Rattle.grib1.proofs.grib1_display.Tie as tie

@@ -1,6 +1,6 @@
 -- The answer below, as a record; the lists are as it leaves them.
 use mathlib.Core.Path.{_∙_, ap}
-use Rattle.grib1.specs.Records.{headerRecord}
+use Rattle.records.specs.Records.{headerRecord}
 use borrow.Author.Needs.{needs}
 use Rattle.grib1.proofs.grib1_read.Statement.{statement}
 use Rattle.grib1.proofs.grib1_read.Tie as tie

@@ -1,6 +1,6 @@
 -- The part below, as a record.
 use mathlib.Core.Path.{_∙_, ap}
-use Rattle.grib1.specs.Records.{partRecord}
+use Rattle.records.specs.Records.{partRecord}
 use borrow.Author.Needs.{needs}
 use Rattle.grib1.proofs.grib1_section.Statement.{statement}
 use Rattle.grib1.proofs.grib1_section.Tie as tie

@@ -1,18 +1,13 @@
--- The catalogue is searched from the top: what it gives is what its rows from i on give (laws hit and miss).
+-- The catalogue is searched from the top: what it gives is what its rows from i on give, row by row (laws hit and miss).
 use mathlib.Core.Path.{_≡_, refl, sym, _∙_}
 use lib.ListN.{drop}
-use Rattle.rules.specs.declared.Entry.{Entry}
-use Rattle.rules.specs.Grid.{catalogue, lookup, noGrid}
+use Rattle.rules.specs.Grid.{catalogue, lookup}
 use Rattle.grid.proofs.Laws.{hit, miss}
 use borrow.Author.Needs.{needs}
 use native.Mathlib.Omega.{arith}
 use Prim.Native.Nat.{_≤_, _-_}
 use Rattle.grid.proofs.find.Statement.{statement}
 use Rattle.grid.proofs.find.Tie as tie
-
-none : Entry
-unfolding noGrid
-none = record { number = 0; grid = noGrid }
 
 abbrev Inv-loop : tie.InvT-loop
 Inv-loop n i₀ i = (i ≤ 7) × (lookup catalogue n ≡ lookup (drop i catalogue) n)
@@ -24,16 +19,16 @@ loop-holds : tie.Need-loop-holds Inv-loop μ-loop
 loop-holds c = (omega arith, refl)
 
 returns : tie.Need-returns Inv-loop μ-loop
-unfolding catalogue none
 returns c =
     let l = c .before .before .before .before .before .loop in
-    sym (l .inv .1 ∙ hit catalogue _ (l .i) none (search needs) (c .before .if1 .taken))
+    let r = c .before .before .before .row .ensures in
+    sym (l .inv .1 ∙ hit _ _ _ _ r (c .before .if1 .taken))
 
 loop-again : tie.Need-loop-again Inv-loop μ-loop
-unfolding catalogue none
 loop-again c =
     let l = c .before .before .before .before .loop in
-    (omega arith, l .inv .1 ∙ miss catalogue _ (l .i) none (search needs) (c .if1 .left))
+    let r = c .before .before .row .ensures in
+    (omega arith, l .inv .1 ∙ miss _ _ _ _ r (c .if1 .left))
 
 returns-2 : tie.Need-returns-2 Inv-loop μ-loop
 unfolding catalogue lookup
@@ -48,7 +43,6 @@ find-spec =
     Inv-loop
     μ-loop
     loop-holds
-    (λ c. search needs)
     (λ c. search needs)
     returns
     (λ c. search needs)

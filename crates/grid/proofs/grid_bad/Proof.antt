@@ -1,4 +1,4 @@
--- Refusal 9: the list of tests opened, by congruence over the calls.
+-- Refusal 9: the list of tests opened, call by call.
 use Rattle.rules.specs.Grid.{gridFaults, scanBad}
 use Rattle.rules.specs.Table.{anyOf, orAll}
 use borrow.Author.Needs.{needs}
@@ -7,7 +7,7 @@ use Rattle.grid.proofs.grid_bad.Tie as tie
 
 returns : tie.Need-returns
 unfolding anyOf orAll gridFaults scanBad
-returns c = cc
+returns c = rw (c .scan-bad .ensures, c .before .longitude-bad2 .ensures, c .before .before .longitude-bad .ensures, c .before .before .before .latitude-bad2 .ensures, c .before .before .before .before .latitude-bad .ensures, c .before .before .before .before .before .points2 .ensures, c .before .before .before .before .before .before .points .ensures)
 
 pub grid-bad-spec : {M : Type 1} → statement M
 grid-bad-spec =

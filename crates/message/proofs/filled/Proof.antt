@@ -1,4 +1,4 @@
--- Rows 10 and 11 as nested refusals: the table opened, by congruence.
+-- Rows 10 and 11 as nested refusals: the table opened, call by call.
 use Rattle.rules.specs.Table.{firstOr}
 use Rattle.rules.specs.Reading.{dataRows}
 use borrow.Author.Needs.{needs}
@@ -7,7 +7,7 @@ use Rattle.message.proofs.filled.Tie as tie
 
 returns : tie.Need-returns
 unfolding firstOr dataRows
-returns c = cc
+returns c = rw (c .refuse2 .ensures, c .before .refuse .ensures, c .before .before .packing-bad .ensures, c .before .before .before .bitmap-bad .ensures)
 
 pub filled-spec : {M : Type 1} → statement M
 filled-spec =

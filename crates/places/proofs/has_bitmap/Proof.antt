@@ -1,4 +1,4 @@
--- Bit 2 of PDS octet 8, by congruence.
+-- Bit 2 of PDS octet 8, call by call.
 use Rattle.rules.specs.Places.{hasBitmap}
 use borrow.Author.Needs.{needs}
 use Rattle.places.proofs.has_bitmap.Statement.{statement}
@@ -6,7 +6,7 @@ use Rattle.places.proofs.has_bitmap.Tie as tie
 
 returns : tie.Need-returns
 unfolding hasBitmap
-returns c = cc
+returns c = rw (c .octet .ensures)
 
 pub has-bitmap-spec : {M : Type 1} → statement M
 has-bitmap-spec = tie.close (tie.spec (λ c κs. search needs) returns)

@@ -1,4 +1,4 @@
--- Rows 1 to 6 as nested refusals: the table opened, by congruence over the calls.
+-- Rows 1 to 6 as nested refusals: the table opened, call by call.
 use borrow.Author.Needs.{needs}
 use Rattle.rules.specs.Table.{firstOr}
 use Rattle.rules.specs.Reading.{layoutRows}
@@ -7,7 +7,7 @@ use Rattle.places.proofs.layout.Tie as tie
 
 returns : tie.Need-returns
 unfolding firstOr layoutRows
-returns c = cc
+returns c = rw (c .refuse6 .ensures, c .before .refuse5 .ensures, c .before .before .mark-bad .ensures, c .before .before .before .size-bad .ensures, c .before .before .before .before .refuse4 .ensures, c .before .before .before .before .before .refuse3 .ensures, c .before .before .before .before .before .before .total-bad .ensures, c .before .before .before .before .before .before .before .edition-bad .ensures, c .before .before .before .before .before .before .before .before .refuse2 .ensures, c .before .before .before .before .before .before .before .before .before .refuse .ensures, c .before .before .before .before .before .before .before .before .before .before .time-bad .ensures, c .before .before .before .before .before .before .before .before .before .before .before .places-bad .ensures, c .before .before .before .before .before .before .before .before .before .before .before .before .has-bitmap .ensures, c .before .before .before .before .before .before .before .before .before .before .before .before .before .has-grid .ensures, c .before .before .before .before .before .before .before .before .before .before .before .before .before .before .end-start .ensures)
 
 pub layout-spec : {M : Type 1} → statement M
 layout-spec =

@@ -1,4 +1,4 @@
--- Refusal 5: the list of tests opened, by congruence over the calls.
+-- Refusal 5: the list of tests opened, call by call.
 use Rattle.rules.specs.Table.{anyOf, orAll}
 use Rattle.rules.specs.Places.{placesFaults}
 use borrow.Author.Needs.{needs}
@@ -7,7 +7,7 @@ use Rattle.places.proofs.places_bad.Tie as tie
 
 returns : tie.Need-returns
 unfolding anyOf orAll placesFaults
-returns c = cc
+returns c = rw (c .before .before .section-bad4 .ensures, c .before .before .before .section-bad3 .ensures, c .before .before .before .before .section-bad2 .ensures, c .before .before .before .before .before .before .section-bad .ensures)
 
 pub places-bad-spec : {M : Type 1} → statement M
 places-bad-spec =

@@ -1,5 +1,5 @@
 -- A section's start and length in both cases of its presence, and how large the length can be.
-use Rattle.places.proofs.Laws.{three-lt}
+use Rattle.octets.proofs.Numbers.{three-lt}
 use mathlib.Core.Path.{refl}
 use Rattle.rules.specs.Places.{sectionAt}
 use borrow.Author.Needs.{needs}

@@ -1,4 +1,4 @@
--- Refusal 4: the list of tests opened, by congruence over the calls.
+-- Refusal 4: the list of tests opened, call by call.
 use Rattle.rules.specs.Table.{anyOf, orAll}
 use Rattle.rules.specs.Places.{totalFaults}
 use borrow.Author.Needs.{needs}
@@ -7,7 +7,7 @@ use Rattle.places.proofs.total_bad.Tie as tie
 
 returns : tie.Need-returns
 unfolding anyOf orAll totalFaults
-returns c = cc
+returns c = rw (c .four .ensures, c .before .end-start .ensures, c .before .before .three .ensures)
 
 pub total-bad-spec : {M : Type 1} → statement M
 total-bad-spec =

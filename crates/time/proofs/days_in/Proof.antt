@@ -1,4 +1,4 @@
--- The days of a month: the definition opened, by congruence over the calls.
+-- The days of a month: the definition opened, call by call.
 use Rattle.rules.specs.Time.{daysIn}
 use borrow.Author.Needs.{needs}
 use Rattle.time.proofs.days_in.Statement.{statement}
@@ -6,7 +6,7 @@ use Rattle.time.proofs.days_in.Tie as tie
 
 returns : tie.Need-returns
 unfolding daysIn
-returns c = cc
+returns c = rw (c .pick3 .ensures, c .before .pick2 .ensures, c .before .before .pick .ensures, c .before .before .before .is-leap .ensures)
 
 pub days-in-spec : {M : Type 1} → statement M
 days-in-spec =

@@ -1,4 +1,4 @@
--- Refusal 12: the products fit, then by congruence.
+-- Refusal 12: the products fit, then call by call.
 use Rattle.bits.proofs.Products.{product}
 use Rattle.rules.specs.Values.{lengthBad}
 use native.Mathlib.Omega.{arith}
@@ -15,7 +15,7 @@ add-result c = let m = c .before .before .before .before .before .args .m in let
 
 returns : tie.Need-returns
 unfolding lengthBad
-returns c = cc
+returns c = rw (c .before .less .ensures, c .before .before .octet .ensures)
 
 pub length-bad-spec : {M : Type 1} → statement M
 length-bad-spec =

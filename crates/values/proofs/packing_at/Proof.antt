@@ -1,4 +1,4 @@
--- Two octets read, by congruence.
+-- Two octets read, call by call.
 use Rattle.rules.specs.Values.{packingAt}
 use borrow.Author.Needs.{needs}
 use Rattle.values.proofs.packing_at.Statement.{statement}
@@ -6,7 +6,7 @@ use Rattle.values.proofs.packing_at.Tie as tie
 
 returns : tie.Need-returns
 unfolding packingAt
-returns c = cc
+returns c = rw (c .octet2 .ensures, c .before .octet .ensures)
 
 pub packing-at-spec : {M : Type 1} → statement M
 packing-at-spec = tie.close (tie.spec (λ c κs. search needs) (λ c κs. search needs) returns)

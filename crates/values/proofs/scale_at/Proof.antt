@@ -1,4 +1,4 @@
--- Two fields read, by congruence.
+-- Two fields read, call by call.
 use Rattle.rules.specs.Values.{scaleAt}
 use borrow.Author.Needs.{needs}
 use Rattle.values.proofs.scale_at.Statement.{statement}
@@ -6,7 +6,7 @@ use Rattle.values.proofs.scale_at.Tie as tie
 
 returns : tie.Need-returns
 unfolding scaleAt
-returns c = cc
+returns c = rw (c .four .ensures, c .before .signed-two .ensures)
 
 pub scale-at-spec : {M : Type 1} → statement M
 scale-at-spec = tie.close (tie.spec (λ c κs. search needs) (λ c κs. search needs) returns)

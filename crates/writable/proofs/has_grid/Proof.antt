@@ -1,4 +1,4 @@
--- Bit 1 of PDS octet 8, by congruence.
+-- Bit 1 of PDS octet 8, call by call.
 use Rattle.rules.specs.Places.{hasGrid}
 use borrow.Author.Needs.{needs}
 use Rattle.writable.proofs.has_grid.Statement.{statement}
@@ -6,7 +6,7 @@ use Rattle.writable.proofs.has_grid.Tie as tie
 
 returns : tie.Need-returns
 unfolding hasGrid
-returns c = cc
+returns c = rw (c .octet .ensures)
 
 pub has-grid-spec : {M : Type 1} → statement M
 has-grid-spec = tie.close (tie.spec (λ c κs. search needs) returns)

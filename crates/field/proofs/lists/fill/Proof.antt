@@ -1,8 +1,6 @@
 -- The lists by the kind of bitmap: each arm's promise, with presence by that kind.
 use borrow.Author.Needs.{needs}
-use native.Mathlib.Omega.{arith}
-use Prim.Native.Nat.{_≤_, _+_, _-_}
-use lib.ListN.{length}
+use Prim.Native.Nat.{_-_}
 use Rattle.field.proofs.Presence as P
 use Rattle.field.proofs.lists.fill.Statement.{statement}
 use Rattle.field.proofs.lists.fill.Tie as tie

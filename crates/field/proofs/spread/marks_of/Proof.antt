@@ -1,7 +1,7 @@
 -- Marks octet by octet of the bitmap, then the points left over: each loop fills the list further.
-use mathlib.Core.Path.{_≡_, refl, sym, ap, _∙_}
-use mathlib.Core.List.{List, _++_}
-use lib.ListN.{drop, set, length-set}
+use mathlib.Core.Path.{_≡_, refl, sym, _∙_}
+use mathlib.Core.List.{_++_}
+use lib.ListN.{drop, length-set}
 use native.Mathlib.Nat.{add-zero}
 use Rattle.bits.specs.Bits.{bitOf, bitsIn}
 use Rattle.bits.specs.Tables.{tab}

@@ -1,7 +1,7 @@
 -- Values to their points from the last down: first the points past the last whole octet, then octet by octet.
 use mathlib.Core.Path.{_≡_, refl, sym, ap, _∙_, subst}
 use mathlib.Core.List.{List}
-use lib.ListN.{set, length-set}
+use lib.ListN.{length-set}
 use Rattle.bits.specs.Bits.{bitsIn, count}
 use Rattle.field.specs.Down.{Down}
 use Rattle.field.proofs.Spreading.{down-none, down-all, down-step, step-count}

@@ -2,7 +2,7 @@
 use mathlib.Core.Path.{_≡_, refl, sym, ap, _∙_, subst}
 use mathlib.Core.List.{List}
 use native.Mathlib.Nat.{mul-zero, mul-one}
-use lib.ListN.{getD, set, length-set}
+use lib.ListN.{getD, length-set}
 use Rattle.bits.specs.Bits.{bitsIn, count}
 use Rattle.bits.proofs.Runs.{bits-at}
 use Rattle.field.specs.Down.{Down}

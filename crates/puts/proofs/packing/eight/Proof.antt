@@ -1,9 +1,8 @@
 -- The invariant: the numbers passed, as one.
-use mathlib.Core.Path.{_≡_, sym, ap, _∙_}
+use mathlib.Core.Path.{_≡_, ap, _∙_}
 use Prim.Native.Nat.{ℕ, _≤_, _+_, _-_, _*_}
 use native.Mathlib.Omega.{arith}
 use borrow.Author.Needs.{needs}
-use lib.ListN.{getD}
 use Rattle.bits.specs.Bits.{bitsIn, run}
 use Rattle.puts.proofs.Small.{power-is, power-fits, held-none, held-more, held-fits}
 use Rattle.puts.proofs.packing.eight.Statement.{statement}

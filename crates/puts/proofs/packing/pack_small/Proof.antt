@@ -1,5 +1,5 @@
 -- The invariants: the first i numbers are packed, and what lies past the data is as it was; then, whatever they were packed over, i more are.
-use mathlib.Core.Path.{_≡_, refl, sym, ap, ap₂, _∙_, subst}
+use mathlib.Core.Path.{_≡_, refl, sym, ap₂, _∙_, subst}
 use mathlib.Core.List.{List}
 use Prim.Native.Nat.{ℕ, _≤_, _<_, _+_, _-_, _*_, _^_}
 use native.Mathlib.Nat.{zero-mul, add-mul, mod-lt, mul-le-mul-right}
@@ -7,7 +7,7 @@ use lib.Dec.{lit<}
 use native.Mathlib.Omega.{arith}
 use borrow.Author.Needs.{needs}
 use lib.ListN.{length, take, drop}
-use Rattle.bits.specs.Bits.{bitsIn, run, octetsFor, packedInto, numberAt}
+use Rattle.bits.specs.Bits.{octetsFor, packedInto, numberAt}
 use Rattle.bits.proofs.Runs.{bitsIn-bits, run-below}
 use Rattle.bits.proofs.Placed.{pack-none}
 use Rattle.puts.proofs.Small.{small-turn, more-left, ahead-turn, ahead-kept, ahead-all}

@@ -1,9 +1,9 @@
 -- Each turn fills one element more, from the place reached.
-use mathlib.Core.Path.{_≡_, ap, _∙_}
+use mathlib.Core.Path.{_≡_}
 use mathlib.Core.List.{_++_}
 use native.Mathlib.Omega.{arith}
 use borrow.Author.Needs.{needs}
-use Prim.Native.Nat.{ℕ, _≤_, _+_, _-_, _*_}
+use Prim.Native.Nat.{_≤_, _+_, _-_, _*_}
 use lib.ListN.{length, drop, length-set}
 use Rattle.bits.specs.Bits.{bitsIn, runs}
 use Rattle.bits.specs.Tables.{tab}

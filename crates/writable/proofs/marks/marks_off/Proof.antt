@@ -1,7 +1,7 @@
 -- The bits of all marks passed, and of their lacks (law below-turn); the measure is what is left of the marks.
 use borrow.Author.Needs.{needs}
 use native.Mathlib.Omega.{arith}
-use Prim.Native.Nat.{ℕ, _≤_, _-_, _%_, _^_}
+use Prim.Native.Nat.{_≤_, _-_, _%_, _^_}
 use mathlib.Core.Path.{_≡_, ap, _∙_}
 use mathlib.Core.Bool.{not}
 use lib.Dec.{leb, ltb}

@@ -142,7 +142,7 @@ fn stepped(e: u8) -> Vec<u8> {
 
 fn halves(table: &mut Table) {
     table.group("check-17");
-    let rule = "17: 2 x |V - R - X x 2^E| <= 2^E at each present point";
+    let rule = "17: V within half a step of R + X x 2^E at each present point";
     // E, and the most that a point may be out by: half of 2^E
     for (e, half) in [
         (0, 0),

@@ -1,0 +1,3 @@
+-- What the records' proofs share, and what is proved of the records that come in.
+pub mod Named
+pub mod Made

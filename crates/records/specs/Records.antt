@@ -1,0 +1,92 @@
+-- The records that the C face hands out: each field as a number of the answer in `rules`. The answer to a refusal has zero in every field but
+-- its reply, and so has its record.
+use Prim.Native.Nat.{ℕ}
+use mathlib.Core.Bool.{Bool, false, cond}
+use Rattle.rules.specs.declared.{Refusal.Refusal, Written.Written, Display.Display, Part.Part, Grid.Grid, Bitmap.Bitmap, Bitmap.the-variants.Without, Bitmap.the-variants.Carried, Bitmap.the-variants.Stored, Header.Header, Charted.Charted, Charted.the-variants.On, Charted.the-variants.Off, Pointed.Pointed, Pointed.the-variants.At, Pointed.the-variants.Off as Nowhere}
+use Rattle.rules.specs.Bitmap.{InForce}
+use Rattle.rules.specs.Points.{Numbering, numbered, absent, outside}
+use Rattle.records.specs.declared.{PartRecord.PartRecord, GridRecord.GridRecord, HeaderRecord.HeaderRecord, PlaceRecord.PlaceRecord, PointRecord.PointRecord, DataRecord.DataRecord, DisplayRecord.DisplayRecord, WrittenRecord.WrittenRecord, CheckRecord.CheckRecord}
+
+-- a bitmap's kind and, where it is a stored one, its number
+abbrev pub bitmapKind : Bitmap → ℕ
+bitmapKind Without = 0
+bitmapKind Carried = 1
+bitmapKind (Stored number) = 2
+
+abbrev pub bitmapNumber : Bitmap → ℕ
+bitmapNumber Without = 0
+bitmapNumber Carried = 0
+bitmapNumber (Stored number) = number
+
+-- a part of the lent bitmap, or else of the message
+abbrev pub partBy : Bool → Part → PartRecord
+partBy stored p = record { stored = cond stored 1 0; start = p .start; len = p .len }
+
+abbrev pub partRecord : Part → PartRecord
+partRecord p = partBy false p
+
+abbrev pub forceRecord : InForce → PartRecord
+forceRecord f = partBy (f .stored) (f .part)
+
+abbrev pub gridRecord : Grid → GridRecord
+gridRecord g = record {
+  la1 = g .la1 .value;
+  lo1 = g .lo1 .value;
+  la2 = g .la2 .value;
+  lo2 = g .lo2 .value;
+  ni = g .ni;
+  nj = g .nj;
+  di = g .di;
+  dj = g .dj;
+  flags = g .flags;
+  scan = g .scan;
+}
+
+abbrev pub headerRecord : Header → HeaderRecord
+headerRecord h = record {
+  reply = h .refusal .number;
+  points = h .points;
+  present = h .present;
+  d = h .d .value;
+  e = h .scale .e .value;
+  r = h .scale .r;
+  bitmap = bitmapKind (h .bitmap);
+  grid = gridRecord (h .grid);
+  pds = partRecord (h .places .pds);
+  gds = partRecord (h .places .gds);
+  bms = partRecord (h .places .bms);
+  bds = partRecord (h .places .bds);
+  number = bitmapNumber (h .bitmap);
+  year = h .time .year;
+  month = h .time .month;
+  day = h .time .day;
+  hour = h .time .hour;
+  minute = h .time .minute;
+  flags = h .packing .flags;
+  bits = h .packing .bits;
+}
+
+-- a place of the chart, or 0 and zeros where the grid has no such point
+abbrev pub placeRecord : Charted → PlaceRecord
+placeRecord (On c) = record { on = 1; row = c .row; column = c .column }
+placeRecord Off = record { on = 0; row = 0; column = 0 }
+
+-- a grid point, or 0 and zero where the chart has no such place
+abbrev pub pointRecord : Pointed → PointRecord
+pointRecord (At k) = record { on = 1; point = k .0 }
+pointRecord Nowhere = record { on = 0; point = 0 }
+
+-- what is said of a grid point: 1 and its data number, 2 where it is absent, 0 where there is no such point
+abbrev pub dataRecord : Numbering → DataRecord
+dataRecord outside = record { kind = 0; number = 0 }
+dataRecord (numbered k) = record { kind = 1; number = k }
+dataRecord absent = record { kind = 2; number = 0 }
+
+abbrev pub displayRecord : Display → DisplayRecord
+displayRecord d = record { reply = d .refusal .number; reference = d .reference; step = d .step }
+
+abbrev pub writtenRecord : Written → WrittenRecord
+writtenRecord w = record { reply = w .refusal .number; len = w .len }
+
+abbrev pub checkRecord : Refusal → CheckRecord
+checkRecord r = record { reply = r .number }

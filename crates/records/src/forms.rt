@@ -1,0 +1,79 @@
+// The record that comes in from C: what writer and packer are to choose. Any numbers in it stand for a form; a kind that has no name for one that the
+// writer refuses.
+ghost use mathlib.Core.Path.{_≡_};
+ghost use Rattle.records.specs.Forms.{gridBack, gridBy, bitmapBy, formBy};
+use crate::GridRecord;
+use rules::Bitmap;
+use rules::Form;
+use rules::Found;
+use rules::Grid;
+use rules::Packing;
+use rules::Signed;
+
+#[repr(C)]
+pub struct FormRecord {
+    pub given: u32,
+    pub bitmap: u32,
+    pub grid: GridRecord,
+    pub number: u16,
+    pub flags: u8,
+    pub bits: u8,
+}
+
+fn grid_back(g: GridRecord) -> Grid
+    ensures { λ r. ⌜ r ≡ gridBack g ⌝ }
+{
+    Grid {
+        ni: g.ni,
+        nj: g.nj,
+        la1: Signed { value: g.la1 },
+        lo1: Signed { value: g.lo1 },
+        flags: g.flags,
+        la2: Signed { value: g.la2 },
+        lo2: Signed { value: g.lo2 },
+        di: g.di,
+        dj: g.dj,
+        scan: g.scan,
+    }
+}
+
+fn grid_by(kind: u32, g: GridRecord) -> Found
+    ensures { λ r. ⌜ r ≡ gridBy kind g ⌝ }
+{
+    if kind == 0 {
+        return Found::Nothing;
+    }
+    if kind == 1 {
+        return Found::Given(grid_back(g));
+    }
+    Found::Given(grid::the_grid(Found::Nothing))
+}
+
+fn bitmap_by(kind: u32, number: u16) -> Bitmap
+    ensures { λ r. ⌜ r ≡ bitmapBy kind number ⌝ }
+{
+    if kind == 0 {
+        return Bitmap::Without;
+    }
+    if kind == 1 {
+        return Bitmap::Carried;
+    }
+    if kind == 2 {
+        return Bitmap::Stored(number);
+    }
+    Bitmap::Stored(0)
+}
+
+pub fn form_by(f: FormRecord) -> Form
+    ensures { λ r. ⌜ r ≡ formBy f ⌝ }
+{
+    let g = f.grid;
+    Form {
+        grid: grid_by(f.given, g),
+        bitmap: bitmap_by(f.bitmap, f.number),
+        packing: Packing {
+            flags: f.flags,
+            bits: f.bits,
+        },
+    }
+}

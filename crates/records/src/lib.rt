@@ -1,0 +1,268 @@
+// The records that cross to C, by value and in its layout: those that go out, and how each is made of an answer; and, in forms.rt, the one that
+// comes in.
+ghost use mathlib.Core.Path.{_≡_};
+ghost use Rattle.points.specs.Told.{told};
+ghost use Rattle.records.specs.Records.{bitmapKind, bitmapNumber, partBy, partRecord, gridRecord, headerRecord, placeRecord, pointRecord, dataRecord, displayRecord, writtenRecord, checkRecord};
+
+mod forms; // forms.rt: the record that comes in
+
+pub use forms::FormRecord;
+pub use forms::form_by;
+use parts::Force;
+use points::Numbered;
+use rules::Bitmap;
+use rules::Charted;
+use rules::Display;
+use rules::Grid;
+use rules::Header;
+use rules::Part;
+use rules::Pointed;
+use rules::Refusal;
+use rules::Signed;
+use rules::Written;
+
+// A part of the message (stored 0) or of the lent bitmap (stored 1).
+#[repr(C)]
+pub struct PartRecord {
+    pub stored: u32,
+    pub start: u32,
+    pub len: u32,
+}
+
+#[repr(C)]
+pub struct GridRecord {
+    pub la1: i32,
+    pub lo1: i32,
+    pub la2: i32,
+    pub lo2: i32,
+    pub ni: u16,
+    pub nj: u16,
+    pub di: u16,
+    pub dj: u16,
+    pub flags: u8,
+    pub scan: u8,
+}
+
+#[repr(C)]
+pub struct HeaderRecord {
+    pub reply: u32,
+    pub points: u32,
+    pub present: u32,
+    pub d: i32,
+    pub e: i32,
+    pub r: u32,
+    pub bitmap: u32,
+    pub grid: GridRecord,
+    pub pds: PartRecord,
+    pub gds: PartRecord,
+    pub bms: PartRecord,
+    pub bds: PartRecord,
+    pub number: u16,
+    pub year: u16,
+    pub month: u8,
+    pub day: u8,
+    pub hour: u8,
+    pub minute: u8,
+    pub flags: u8,
+    pub bits: u8,
+}
+
+#[repr(C)]
+pub struct PlaceRecord {
+    pub on: u32,
+    pub row: u32,
+    pub column: u32,
+}
+
+#[repr(C)]
+pub struct PointRecord {
+    pub on: u32,
+    pub point: u32,
+}
+
+#[repr(C)]
+pub struct DataRecord {
+    pub kind: u32,
+    pub number: u32,
+}
+
+#[repr(C)]
+pub struct DisplayRecord {
+    pub reply: u32,
+    pub reference: f64,
+    pub step: f64,
+}
+
+#[repr(C)]
+pub struct WrittenRecord {
+    pub reply: u32,
+    pub len: u32,
+}
+
+#[repr(C)]
+pub struct CheckRecord {
+    pub reply: u32,
+}
+
+fn bitmap_kind(bitmap: Bitmap) -> u32
+    ensures { λ r. ⌜ r ≡ bitmapKind bitmap ⌝ }
+{
+    match bitmap {
+        Bitmap::Without => 0,
+        Bitmap::Carried => 1,
+        Bitmap::Stored(_) => 2,
+    }
+}
+
+fn bitmap_number(bitmap: Bitmap) -> u16
+    ensures { λ r. ⌜ r ≡ bitmapNumber bitmap ⌝ }
+{
+    match bitmap {
+        Bitmap::Without => 0,
+        Bitmap::Carried => 0,
+        Bitmap::Stored(number) => number,
+    }
+}
+
+fn plain(z: Signed) -> i32
+    ensures { λ r. ⌜ r ≡ z .value ⌝ }
+{
+    z.value
+}
+
+pub fn part_record(p: Part) -> PartRecord
+    ensures { λ r. ⌜ r ≡ partRecord p ⌝ }
+{
+    PartRecord {
+        stored: 0,
+        start: p.start,
+        len: p.len,
+    }
+}
+
+fn grid_record(g: Grid) -> GridRecord
+    ensures { λ r. ⌜ r ≡ gridRecord g ⌝ }
+{
+    GridRecord {
+        la1: g.la1.value,
+        lo1: g.lo1.value,
+        la2: g.la2.value,
+        lo2: g.lo2.value,
+        ni: g.ni,
+        nj: g.nj,
+        di: g.di,
+        dj: g.dj,
+        flags: g.flags,
+        scan: g.scan,
+    }
+}
+
+pub fn header_record(h: Header) -> HeaderRecord
+    ensures { λ r. ⌜ r ≡ headerRecord h ⌝ }
+{
+    let bitmap = h.bitmap;
+    let grid = h.grid;
+    let places = h.places;
+    HeaderRecord {
+        reply: h.refusal.number,
+        points: h.points,
+        present: h.present,
+        d: plain(h.d),
+        e: plain(h.scale.e),
+        r: h.scale.r,
+        bitmap: bitmap_kind(bitmap),
+        grid: grid_record(grid),
+        pds: part_record(places.pds),
+        gds: part_record(places.gds),
+        bms: part_record(places.bms),
+        bds: part_record(places.bds),
+        number: bitmap_number(bitmap),
+        year: h.time.year,
+        month: h.time.month,
+        day: h.time.day,
+        hour: h.time.hour,
+        minute: h.time.minute,
+        flags: h.packing.flags,
+        bits: h.packing.bits,
+    }
+}
+
+pub fn place_record(charted: Charted) -> PlaceRecord
+    ensures { λ r. ⌜ r ≡ placeRecord charted ⌝ }
+{
+    match charted {
+        Charted::On(c) => PlaceRecord {
+            on: 1,
+            row: c.row,
+            column: c.column,
+        },
+        Charted::Off => PlaceRecord {
+            on: 0,
+            row: 0,
+            column: 0,
+        },
+    }
+}
+
+pub fn point_record(pointed: Pointed) -> PointRecord
+    ensures { λ r. ⌜ r ≡ pointRecord pointed ⌝ }
+{
+    match pointed {
+        Pointed::At(k) => PointRecord { on: 1, point: k.0 },
+        Pointed::Off => PointRecord { on: 0, point: 0 },
+    }
+}
+
+pub fn force_record(f: Force) -> PartRecord
+    ensures { λ r. ⌜ r ≡ partBy (f .stored) (f .part) ⌝ }
+{
+    let mut stored: u32 = 0;
+    if f.stored {
+        stored = 1;
+    }
+    PartRecord {
+        stored,
+        start: f.part.start,
+        len: f.part.len,
+    }
+}
+
+pub fn data_record(n: Numbered) -> DataRecord
+    ensures { λ r. ⌜ r ≡ dataRecord (told n) ⌝ }
+{
+    match n {
+        Numbered::Present(k) => DataRecord {
+            kind: 1,
+            number: k.number(),
+        },
+        Numbered::Absent => DataRecord { kind: 2, number: 0 },
+        Numbered::Outside => DataRecord { kind: 0, number: 0 },
+    }
+}
+
+pub fn display_record(d: Display) -> DisplayRecord
+    ensures { λ r. ⌜ r ≡ displayRecord d ⌝ }
+{
+    DisplayRecord {
+        reply: d.refusal.number,
+        reference: d.reference,
+        step: d.step,
+    }
+}
+
+pub fn written_record(w: Written) -> WrittenRecord
+    ensures { λ r. ⌜ r ≡ writtenRecord w ⌝ }
+{
+    WrittenRecord {
+        reply: w.refusal.number,
+        len: w.len,
+    }
+}
+
+pub fn check_record(refusal: Refusal) -> CheckRecord
+    ensures { λ r. ⌜ r ≡ checkRecord refusal ⌝ }
+{
+    CheckRecord {
+        reply: refusal.number,
+    }
+}
