@@ -1,4 +1,4 @@
-/* One call of the codec, of plain C or of a bare loop on 16,384 points, chosen by its number: count N WHAT. What was needed for it is done whatever WHAT is,
+/* One call of the codec, of plain C or of a bare loop on 4,096 points, chosen by its number: count N WHAT. What was needed for it is done whatever WHAT is,
  * so that the instructions of WHAT are those of this program less those of WHAT 0. */
 #include "grib1.h"
 #include "plain.h"
@@ -6,7 +6,7 @@
 _Bool bare_unpack(const uint8_t *data, size_t data_len, uint32_t at, uint8_t n, uint32_t *values, size_t values_len, uint32_t m);
 _Bool bare_pack(const uint32_t *values, size_t values_len, uint8_t n, uint8_t *data, size_t data_len);
 
-enum { SIDE = 128, POINTS = SIDE * SIDE, MESSAGE = 65536 };
+enum { SIDE = 64, POINTS = SIDE * SIDE, MESSAGE = 65536 };
 
 static uint32_t values[POINTS], gaps[POINTS], back[POINTS], held[POINTS];
 static uint8_t marks[POINTS], half[POINTS], marks_back[POINTS];

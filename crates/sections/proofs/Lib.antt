@@ -7,5 +7,6 @@ pub mod Sections
 pub mod Framed
 pub mod Gathered
 pub mod Filling
+pub mod Ending
 pub mod Ready
 pub mod Message

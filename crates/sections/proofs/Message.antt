@@ -36,7 +36,7 @@ use Rattle.sections.proofs.Lengths.{gds-room, bms-room, bds-room}
 use Rattle.sections.proofs.Marks.{present-count}
 use Rattle.sections.proofs.Sections.{front-length, head-length, head-data}
 use Rattle.sections.proofs.Framed.{Begun, shut-of, begun-of}
-use Rattle.sections.proofs.Filling.{data-laid}
+use Rattle.sections.proofs.Ending.{data-laid}
 use Rattle.sections.proofs.Ready.{Ready, ready-of}
 
 module _ (pds : List ℕ) (form : Form) (scale : Scale) (f : ℕ → ℕ) (b : Bits f) (v : ℕ → ℕ) (n : ℕ) where

@@ -4,7 +4,7 @@ use Prim.Native.Nat.{ℕ, _≤_, _+_, _-_, _*_}
 use lib.ListN.{length}
 use mathlib.Core.Path.{subst}
 use Prim.Native.Nat.{_/_}
-use Rattle.sections.proofs.Filling.{pack-filled}
+use Rattle.sections.proofs.Ending.{pack-filled}
 use borrow.Author.Needs.{needs}
 use Rattle.writer.proofs.gathering.put_values.Statement.{statement}
 use Rattle.writer.proofs.gathering.put_values.Tie as tie
