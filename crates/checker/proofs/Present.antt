@@ -21,7 +21,7 @@ use Rattle.bits.proofs.Ones.{count-one, count-none, count-le}
 use Rattle.bits.proofs.Below.{any-none, any-next, any-ext}
 use Rattle.bits.proofs.Marks.{count-same}
 use Rattle.runs.specs.Take.{fetched}
-use Rattle.theorems.proofs.Gathered.{number-lt, value-there}
+use Rattle.laws.proofs.Gathered.{number-lt, value-there}
 use Rattle.rules.specs.Bounds.{sourceMost}
 use Rattle.rules.specs.Numbers.{beyond}
 use Rattle.rules.specs.Bitmap.{Lent, markOf, valueOf}

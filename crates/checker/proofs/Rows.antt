@@ -25,10 +25,10 @@ use Rattle.rules.specs.Bitmap.{Lent, markOf, presentBy, bitmapOctets, inForce}
 use Rattle.rules.specs.Values.{packingFaults, wholeOf}
 use Rattle.rules.specs.Reading.{headerOf, foundIn, foundBy, pointsIn, bitmapIn, inForceIn, presentIn, packingIn, decimalIn}
 use Rattle.rules.specs.Checking.{Source, sourceFaults, decimalDiffers, sourceDiffers, scaleFaults, pointOut}
-use Rattle.theorems.proofs.Rows.{none-of}
-use Rattle.theorems.proofs.Judged.{judged}
-use Rattle.theorems.proofs.Sources.{well-formed}
-use Rattle.theorems.proofs.Checked.{agrees, in-range}
+use Rattle.laws.proofs.Rows.{none-of}
+use Rattle.laws.proofs.Judged.{judged}
+use Rattle.laws.proofs.Sources.{well-formed}
+use Rattle.laws.proofs.Agreed.{agrees, in-range}
 use Rattle.message.proofs.Said as S
 use Rattle.source.specs.Whole.{wholeBad, wholeFrom}
 use Rattle.checker.specs.Points.{out}

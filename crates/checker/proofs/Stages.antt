@@ -18,7 +18,7 @@ use Rattle.rules.specs.Bitmap.{Lent, presentBy, bitmapOctets, inForce}
 use Rattle.rules.specs.Values.{wholeOf}
 use Rattle.rules.specs.Reading.{messageTable, earlierRows, layoutRows, gridRows, dataRows, ownRefusal, headerOf}
 use Rattle.rules.specs.Checking.{Source, decimalDiffers, scaleFaults, checkTable, checkOf}
-use Rattle.theorems.proofs.Rows.{inside}
+use Rattle.laws.proofs.Rows.{inside}
 use Rattle.message.proofs.Said as S
 use Rattle.reply.proofs.Stages.{or-append, staged}
 use Rattle.source.specs.Whole.{wholeFrom}

@@ -9,7 +9,7 @@ use lib.Count.{leadingZeros}
 use lib.Ieee.{binary64, nanBits}
 use lib.Ieee.Bits.{nanBits-above}
 use Rattle.rules.specs.Display.{refBits}
-use Rattle.theorems.proofs.Lead.{lead}
+use Rattle.laws.proofs.Lead.{lead}
 
 pub no-nan : (n : ℕ) → n % 2 ^ 63 ≤ 2047 * 2 ^ 52 → T (not (nanBits binary64 n))
 no-nan n h = subst (λ (b : Bool). T (not b)) (sym (nanBits-above binary64 n)) (le→nltb (2047 * 2 ^ 52) (n % 2 ^ 63) h)

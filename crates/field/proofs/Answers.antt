@@ -19,10 +19,10 @@ use Rattle.rules.specs.Points.{scattered}
 use Rattle.rules.specs.Values.{packingFaults, valuesAt}
 use Rattle.rules.specs.Reading.{parsedOf, foundBy, foundIn, refusedBy, ownRefusal, answerBy, headerOf, inForceIn, pointsIn, presentIn, presentCount, packingIn, valuesIn, marksIn, readTable, readRefusal, readOf, valuesAfter, marksAfter}
 use Rattle.bits.proofs.Tests.{or-false}
-use Rattle.theorems.proofs.Rows.{none-of, inside}
-use Rattle.theorems.proofs.Judged.{judged}
-use Rattle.theorems.proofs.Tiles.{sections}
-use Rattle.theorems.proofs.Bounded.{bitmap-inside}
+use Rattle.laws.proofs.Rows.{none-of, inside}
+use Rattle.laws.proofs.Judged.{judged}
+use Rattle.laws.proofs.Sections.{sections}
+use Rattle.laws.proofs.Bounded.{bitmap-inside}
 use Rattle.message.proofs.Stages.{one-more}
 use Rattle.message.proofs.Said as S
 

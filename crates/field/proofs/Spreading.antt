@@ -16,7 +16,7 @@ use Rattle.rules.specs.Points.{valueAt}
 use Rattle.bits.proofs.Runs.{Bits, bitsIn-bits, bits-at, lt-or-ge}
 use Rattle.bits.proofs.Fill.{length-tab, getD-tab, tab-ext, fill}
 use Rattle.bits.proofs.Ones.{count-le}
-use Rattle.theorems.proofs.Gathered.{number-lt}
+use Rattle.laws.proofs.Gathered.{number-lt}
 use Rattle.field.specs.Down.{Down}
 
 pub count-next : (f : ℕ → ℕ) (i : ℕ) → count f 0 (i + 1) ≡ count f 0 i + f i

@@ -21,11 +21,11 @@ use Rattle.rules.specs.Bitmap.{Lent, markOf}
 use Rattle.rules.specs.Writing.{Parts, message, writeTable, writeRefusal, writeOf, outputAfter, lengthOf}
 use Rattle.rules.specs.Checking.{Source}
 use Rattle.rules.specs.Packing.{reference, spellingOf, stepped, above, exponent, packedAt, packed, packTable, packRefusal, packOf, packedAfter}
-use Rattle.theorems.specs.Checks.{WellFormed}
-use Rattle.theorems.proofs.Sources.{well-formed}
-use Rattle.theorems.proofs.Lowest.{reference-most}
-use Rattle.theorems.proofs.Steps.{step-fits}
-use Rattle.theorems.proofs.Whole.{beyond-no}
+use Rattle.laws.specs.Sources.{WellFormed}
+use Rattle.laws.proofs.Sources.{well-formed}
+use Rattle.laws.proofs.Lowest.{reference-most}
+use Rattle.laws.proofs.Steps.{step-fits}
+use Rattle.laws.proofs.Whole.{beyond-no}
 use Rattle.source.specs.Whole.{spellingFrom}
 use Rattle.reply.proofs.Stages.{stop, go-on, passed}
 use Rattle.sections.specs.Given.{parts}

@@ -15,11 +15,11 @@ use Rattle.rules.specs.Places.{IsPart, noPart, after, sizeBad, placesOf, sectio
 use Rattle.rules.specs.Bitmap.{Lent, inForce, noBitmap, IsInForce}
 use Rattle.rules.specs.Reading.{ownRefusal, headerOf, sectionOf, inForceIn, bitmapOf}
 use Rattle.rules.specs.Bounds.{messageLeast, messageMost}
-use Rattle.theorems.specs.Reads.{Taken, Inside}
-use Rattle.theorems.proofs.Rows.{inside}
-use Rattle.theorems.proofs.Judged.{judged}
-use Rattle.theorems.proofs.Tiles.{reads-inside}
-use Rattle.theorems.proofs.Bounded.{bitmap-inside}
+use Rattle.laws.specs.Taken.{Taken, Inside}
+use Rattle.laws.proofs.Rows.{inside}
+use Rattle.laws.proofs.Judged.{judged}
+use Rattle.laws.proofs.Sections.{reads-inside}
+use Rattle.laws.proofs.Bounded.{bitmap-inside}
 use Rattle.message.proofs.Said as S
 use Rattle.parts.specs.declared.{Force.Force}
 use Rattle.parts.specs.Force.{forceOf}

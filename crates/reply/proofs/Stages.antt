@@ -8,8 +8,8 @@ use borrow.Author.Tests.{eq-eqb, ne-eqb}
 use native.Mathlib.Omega.{arith}
 use Rattle.rules.specs.declared.{Refusal.Refusal}
 use Rattle.rules.specs.Table.{Row, given, firstOr, first, accepted}
-use Rattle.theorems.specs.Replies.{Clear}
-use Rattle.theorems.proofs.Rows.{Numbered, clear, true-is}
+use Rattle.laws.specs.Tables.{Clear}
+use Rattle.laws.proofs.Rows.{Numbered, clear, true-is}
 
 -- rows, and then more rows
 pub or-append : (xs ys : List Row) (z : Refusal) → firstOr (xs ++ ys) z ≡ firstOr xs (firstOr ys z)

@@ -17,7 +17,7 @@ use Rattle.rules.specs.Bounds.{stepMost}
 use Rattle.rules.specs.Bitmap.{markOf}
 use Rattle.rules.specs.Checking.{Source, anyPresent}
 use Rattle.rules.specs.Packing.{reference, stepped, above, tooWide, exponent}
-use Rattle.theorems.proofs.Lowest.{reference-under}
+use Rattle.laws.proofs.Lowest.{reference-under}
 use Rattle.scaling.specs.Spread.{someIn, lowestIn, Highest, spreadOf, leastFor}
 use Rattle.scaling.proofs.Distances.{farther, floor-spread}
 use Rattle.scaling.proofs.Stepping.{wide-none, wide-one, the-least}

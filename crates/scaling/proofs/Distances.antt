@@ -10,7 +10,7 @@ use borrow.Author.Tests.{ltb-true, ltb-false, le-ltb}
 use mir.Syntax.{w32, w64}
 use mir.Val.{Fits, SFits, toZ, ofZ}
 use mir.Facts.{toZ-ofZ, sfits-widen}
-use Rattle.theorems.proofs.Whole.{sub-le, ltZ-antisym}
+use Rattle.laws.proofs.Whole.{sub-le, ltZ-antisym}
 use Rattle.scaling.specs.Spread.{floor, spreadOf}
 
 mag-size : (z : ℤ) → (mag z ≤ natAbs z) × (natAbs z ≤ suc (mag z))

@@ -22,7 +22,7 @@ use Rattle.bits.proofs.Ones.{count-split, count-zero}
 use Rattle.rules.specs.Bounds.{sourceMost}
 use Rattle.rules.specs.Bitmap.{markOf}
 use Rattle.rules.specs.Packing.{lowest}
-use Rattle.theorems.proofs.Whole.{not-below, ltZ-irrefl, ltZ-antisym}
+use Rattle.laws.proofs.Whole.{not-below, ltZ-irrefl, ltZ-antisym}
 use Rattle.scaling.specs.Spread.{someIn, lowestIn, Has, floor, Highest}
 use Rattle.scaling.proofs.Distances.{over-floor}
 

@@ -25,7 +25,7 @@ use Rattle.rules.specs.Bitmap.{markOf, valueOf}
 use Rattle.rules.specs.Points.{gathered}
 use Rattle.writable.specs.Listed.{Listed}
 use Rattle.sections.specs.Filling.{Filled}
-use Rattle.theorems.proofs.Fields.{laid-length}
+use Rattle.laws.proofs.Fields.{laid-length}
 use Rattle.sections.proofs.Gathered.{gathered-all}
 use Rattle.sections.proofs.Placing.{number-put, length-octets, placed-after, placed-from, part-whole, part-rest}
 

@@ -19,7 +19,7 @@ use Rattle.puts.proofs.Over.{in-turn, top-32, take-runs}
 use Rattle.rules.specs.Numbers.{octets}
 use Rattle.rules.specs.Points.{gathered}
 use Rattle.sections.specs.Filling.{Filled}
-use Rattle.theorems.proofs.Gathered.{length-gathered, wide-gathered, gathered-in, gathered-out}
+use Rattle.laws.proofs.Gathered.{length-gathered, wide-gathered, gathered-in, gathered-out}
 
 back : (a b : ℕ) → a ≤ b → a + (b - a) ≡ b
 back a b h = omega arith

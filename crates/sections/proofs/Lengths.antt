@@ -17,11 +17,11 @@ use Rattle.rules.specs.Grid.{gridFields, gdsOf, gridFaults}
 use Rattle.rules.specs.Bitmap.{bmsOf}
 use Rattle.rules.specs.Values.{bdsOf}
 use Rattle.rules.specs.Writing.{gdsFor}
-use Rattle.theorems.proofs.Rows.{none-of}
-use Rattle.theorems.proofs.Whole.{within}
-use Rattle.theorems.proofs.Fields.{laid-length}
-use Rattle.theorems.proofs.GridSection.{gds-length}
-use Rattle.theorems.proofs.DataSection.{bds-length}
+use Rattle.laws.proofs.Rows.{none-of}
+use Rattle.laws.proofs.Whole.{within}
+use Rattle.laws.proofs.Fields.{laid-length}
+use Rattle.laws.proofs.Lengths.{gds-length}
+use Rattle.laws.proofs.Lengths.{bds-length}
 use Rattle.sections.specs.Layout.{shapeFields, cornerFields, stepFields, bmsFields, gdsRoom, bmsRoom, bdsRoom, frontRoom, messageRoom}
 use Rattle.sections.proofs.Placing.{laid-both, three-placed}
 

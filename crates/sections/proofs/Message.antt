@@ -22,8 +22,8 @@ use Rattle.rules.specs.Values.{bdsOf}
 use Rattle.rules.specs.Writing.{Parts, gridFor, pointsFor, gdsFor, partsFaults, sectionsFor, message, writeTable, writeRefusal, lengthOf, writeOf, outputAfter}
 use Rattle.puts.specs.Put.{putNumber}
 use Rattle.reply.proofs.Stages.{stop, go-on}
-use Rattle.theorems.proofs.Fields.{laid-length}
-use Rattle.theorems.proofs.Gathered.{length-gathered, wide-gathered}
+use Rattle.laws.proofs.Fields.{laid-length}
+use Rattle.laws.proofs.Gathered.{length-gathered, wide-gathered}
 use Rattle.writable.specs.Rows.{frontRows, scaleFaults, middleRows, earlyRows, pointsBad, listFaults, ownRows}
 use Rattle.writable.specs.Listed.{Listed}
 use Rattle.sections.specs.declared.{Frame.Frame}

@@ -17,7 +17,7 @@ use Rattle.bits.proofs.Placing.{placed-none, length-placed, placed-next, number
 use Rattle.rules.specs.declared.{Signed.Signed}
 use Rattle.rules.specs.Numbers.{Field, field, octets, laid, sign, spelled, signedField}
 use Rattle.puts.specs.Put.{putFits, putNumber, signedFits, putSigned}
-use Rattle.theorems.proofs.Fields.{widths, laid-append, laid-length}
+use Rattle.laws.proofs.Fields.{widths, laid-append, laid-length}
 
 pub length-octets : (c x : ℕ) → length (octets c x) ≡ c
 length-octets c x = length-runs (bitOf (c * 8) x) 0 8 c

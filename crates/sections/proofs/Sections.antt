@@ -20,7 +20,7 @@ use Rattle.rules.specs.Writing.{gdsFor}
 use Rattle.sections.specs.Layout.{indicatorFields, bmsFields, bdsFields, gdsRoom, bmsRoom, bdsRoom, frontRoom, frontBy, headBy}
 use Rattle.sections.specs.Framing.{givenBad}
 use Rattle.puts.specs.Put.{putNumber}
-use Rattle.theorems.proofs.Fields.{laid-length}
+use Rattle.laws.proofs.Fields.{laid-length}
 use Rattle.sections.proofs.Placing.{laid-rest, number-put, two-placed, three-placed}
 use Rattle.sections.proofs.Lengths.{gds-room, bms-room}
 

@@ -19,7 +19,7 @@ use Rattle.bits.proofs.Runs.{lt-or-ge}
 use Rattle.rules.specs.Bounds.{sourceMost}
 use Rattle.rules.specs.Numbers.{beyond}
 use Rattle.rules.specs.Packing.{spellingOf}
-use Rattle.theorems.proofs.Whole.{within}
+use Rattle.laws.proofs.Whole.{within}
 use Rattle.source.specs.Whole.{spelt, spellingFrom}
 
 -- the loop: A is a, and B is b

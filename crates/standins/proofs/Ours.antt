@@ -13,7 +13,7 @@ use Rattle.rules.specs.Reading.{presentCount, foundBy, foundIn, refusedBy, answ
 use Rattle.rules.specs.Writing.{lengthOf, writeRefusal, writeOf, outputAfter}
 use Rattle.rules.specs.Checking.{checkOf}
 use Rattle.rules.specs.Packing.{packRefusal, packOf, packedAfter}
-use Rattle.theorems.proofs.Rows.{is-true}
+use Rattle.laws.proofs.Rows.{is-true}
 use Rattle.theorems.proofs.Replies.{refusal-keeps}
 use Rattle.theorems.proofs.Told.{read-tells}
 use Rattle.theorems.proofs.Returned.{read-after-write}

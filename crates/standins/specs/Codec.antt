@@ -16,7 +16,8 @@ use Rattle.rules.specs.Writing.{Parts, pointsFor, writeTable}
 use Rattle.rules.specs.RoundTrip.{partsIn, canonical}
 use Rattle.rules.specs.Checking.{Source, checkTable}
 use Rattle.rules.specs.Packing.{packTable}
-use Rattle.theorems.specs.Reads.{Taken, LeftAt, Told}
+use Rattle.laws.specs.Taken.{Taken}
+use Rattle.theorems.specs.Reads.{LeftAt, Told}
 use Rattle.theorems.specs.Returns.{Below, GridFits, NumberFits, handed}
 use Rattle.theorems.specs.Checks.{Passes, Packable}
 

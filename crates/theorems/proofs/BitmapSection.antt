@@ -7,7 +7,7 @@ use mathlib.Core.List.{List, [], _∷_, _++_}
 use mathlib.Core.Logic.{⊎-elim}
 use native.Mathlib.Omega.{arith}
 use native.Mathlib.Nat.{zero-add}
-use borrow.Author.Tests.{ne-eqb, le-ltb, ltb-false, eqb-true, eq-eqb}
+use borrow.Author.Tests.{ne-eqb, le-ltb, ltb-false, eq-eqb}
 use lib.ListN.{length, take, drop}
 use lib.Dec.{T, eqb}
 use Rattle.bits.specs.Bits.{bitsIn, runs, octetsFor}
@@ -24,9 +24,10 @@ use Rattle.rules.specs.Numbers.{Field, field, laid, evenFrom, octet, number}
 use Rattle.rules.specs.Table.{anyOf}
 use Rattle.rules.specs.Bitmap.{Lent, bitmapAt, lentFaults, bitmapFaults, inForce, bitmapOctets, bitmapGiven, presentBy, bmsOf}
 use Rattle.rules.specs.RoundTrip.{bitmapPaddingSet}
-use Rattle.theorems.proofs.Rows.{none-of, any-none, not-eq, is-eq}
-use Rattle.theorems.proofs.Tiles.{Cut}
-use Rattle.theorems.proofs.Fields.{Fit, Back, all-back, after-fields, laid-append, laid-length, stands, here, one, absent-here}
+use Rattle.laws.proofs.Rows.{none-of, any-none, not-eq, is-eq}
+use Rattle.laws.proofs.Sections.{Cut}
+use Rattle.laws.proofs.Fields.{Fit, Back, all-back, after-fields, laid-append, laid-length, stands, here, one, absent-here}
+use Rattle.laws.proofs.Bounded.{NumberIs}
 use Rattle.theorems.proofs.Laid.{Sec, empty-sec, whole-sec, partIs}
 
 abbrev pub mapLen : ℕ → ℕ
@@ -169,21 +170,6 @@ stored-here : (s : List ℕ) (k j n : ℕ) (f : ℕ → ℕ) → Wide 8 s → k 
 stored-here s k j n f w l e1 e4 e5 =
     ap (λ (x : List ℕ). x ++ drop (k + 6) s) (stored-laid j f n) ∙ laid-append (storedFields j) [] (drop (k + 6) s)
     ∙ here s k (storedFields j) (drop (k + 6) s) w l (e1, (one s w (k + 3) ∙ e4, (e5, tt))) refl
-
--- what a bitmap section's kind says of its octets
-abbrev pub NumberIs : List ℕ → ℕ → Bitmap → Type 0
-NumberIs s k Without = Unit {0}
-NumberIs s k Carried = number s k 5 6 ≡ 0
-NumberIs s k (Stored j) = number s k 5 6 ≡ j
-
-pub map-says : (s : List ℕ) (there : Bool) (k : ℕ) → (there ≡ bitmapGiven (bitmapAt s there k)) × NumberIs s k (bitmapAt s there k)
-unfolding bitmapAt
-map-says s false k = (refl, tt)
-map-says s true k = go (eqb (number s k 5 6) 0) refl
-  where
-    go : (t : Bool) → eqb (number s k 5 6) 0 ≡ t → (true ≡ bitmapGiven (cond t Carried (Stored (number s k 5 6)))) × NumberIs s k (cond t Carried (Stored (number s k 5 6)))
-    go true e = (refl, eqb-true _ _ e)
-    go false e = (refl, refl)
 
 -- laid again from what was read: a section of any kind, there or not
 pub map-here : (m : Bitmap) (there : Bool) (s : List ℕ) (lent : Lent) (p : Part) (n : ℕ) (f : ℕ → ℕ) → Wide 8 s → p .start + p .len ≤ length s

@@ -1,16 +1,16 @@
 -- Demand 3: the check says yes exactly when the message is taken, the source well formed, both agree, the scales are in range and each present point is near; each of the
 -- checker's rows there and back.
-use Prim.Native.Nat.{ℕ, _+_, _*_, _/_, _%_, _≤_, _<_}
+use Prim.Native.Nat.{ℕ, _*_, _%_, _≤_}
 use mathlib.Core.Bool.{Bool, false, not}
 use mathlib.Core.Path.{_≡_, sym, subst, _∙_, ap}
 use mathlib.Core.List.{List, [], _∷_}
 use native.Mathlib.Omega.{arith}
-use native.Mathlib.Nat.{add-zero, div-add-mod', mul-mod-left, mul-le-mul-right, le-of-mul-le-mul-right}
+use native.Mathlib.Nat.{mul-mod-left, mul-le-mul-right}
 use borrow.Author.Tests.{ltb-false, le-ltb}
-use lib.Dec.{eqb, lit<}
+use lib.Dec.{eqb}
 use lib.IntN.{ℤ, pos, natAbs}
 use lib.Signed.{ltZ}
-use Rattle.bits.proofs.Below.{none-below, no-below}
+use Rattle.bits.proofs.Below.{no-below}
 use Rattle.rules.specs.declared.{Scale.Scale}
 use Rattle.rules.specs.Bounds.{sourceMost, stepMost}
 use Rattle.rules.specs.Table.{Row, row, refusal, anyOf}
@@ -18,26 +18,17 @@ use Rattle.rules.specs.Bitmap.{Lent, valueOf}
 use Rattle.rules.specs.Values.{unit, sizeOf, whole, wholeOf}
 use Rattle.rules.specs.Reading.{layoutRows, gridRows, dataRows, parsedOf, earlierRows, messageTable, ownRefusal, pointsIn, presentIn, valuesIn, scaleIn, decimalIn}
 use Rattle.rules.specs.Checking.{Source, numberOf, presentOf, sourceFaults, decimalDiffers, sourceDiffers, scaleFaults, farFrom, pointOut, checkTable, checkOf}
-use Rattle.theorems.specs.Replies.{Clear}
-use Rattle.theorems.specs.Checks.{AtPresent, Agrees, InRange, Near, Passes, CheckExactly}
-use Rattle.bits.proofs.Tests.{or-false, or-none}
-use Rattle.theorems.proofs.Rows.{clear, clear-parts, accepts, taken-by, first-after, none-of, any-none, is-eq, not-eq}
-use Rattle.theorems.proofs.Judged.{rows}
-use Rattle.theorems.proofs.Whole.{ltZ-antisym, ltZ-irrefl, natural}
-use Rattle.theorems.proofs.Sources.{at-none, none-at, well-formed, formed-well}
+use Rattle.laws.specs.Tables.{Clear}
+use Rattle.laws.specs.Sources.{AtPresent, Agrees, InRange}
+use Rattle.theorems.specs.Checks.{Near, Passes, CheckExactly}
+use Rattle.bits.proofs.Tests.{or-none}
+use Rattle.laws.proofs.Rows.{clear, clear-parts, accepts, taken-by, first-after, any-none, not-eq}
+use Rattle.laws.proofs.Judged.{rows}
+use Rattle.laws.proofs.Whole.{ltZ-irrefl}
+use Rattle.laws.proofs.Sources.{at-none, none-at, well-formed, formed-well}
+use Rattle.laws.proofs.Agreed.{agrees, in-range}
 
 -- 15
-pub agrees : (s : List ℕ) (lent : Lent) (f : Source) → anyOf (sourceDiffers s lent f) ≡ false → Agrees s lent f
-unfolding sourceDiffers
-agrees s lent f e =
-    let h = none-of (sourceDiffers s lent f) e in
-    let d = or-false (ltZ (decimalIn s .value) (f .d)) (ltZ (f .d) (decimalIn s .value)) (h .1 .1 .0) in
-    record {
-      points = is-eq _ _ (h .0);
-      marks = λ i l. is-eq _ _ (none-below (λ i. not (eqb (presentIn s lent i) (presentOf f i))) (pointsIn s) (h .1 .0) i l);
-      d = ltZ-antisym (decimalIn s .value) (f .d) (d .0) (d .1);
-    }
-
 pub decimal-no : (a b : ℤ) → a ≡ b → decimalDiffers a b ≡ false
 decimal-no a b e =
     let r = ltZ-irrefl b in
@@ -53,20 +44,7 @@ agree s lent f h = any-none (sourceDiffers s lent f) (
   ),
 )
 
--- 16: a size that is whole, and its bound
-in-parts : (u x most : ℕ) → 0 < u → x % u ≡ 0 → x ≤ most * u → (x ≡ x / u * u) × (x / u ≤ most)
-in-parts u x most p e l =
-    let q : x ≡ x / u * u = sym (sym (add-zero (x / u * u)) ∙ ap (λ (k : ℕ). x / u * u + k) (sym e) ∙ div-add-mod' x u) in
-    (q, le-of-mul-le-mul-right {m = x / u} {n = most} {k = u} (subst (λ (k : ℕ). k ≤ most * u) q l) p)
-
-pub in-range : (c : Scale) → anyOf (scaleFaults c) ≡ false → InRange c
-unfolding scaleFaults whole
-in-range c e =
-    let h = none-of (scaleFaults c) e in
-    let n = natural stepMost (c .e .value) (h .0) (h .1 .0) in
-    let p = in-parts unit (sizeOf (c .r)) sourceMost (lit< tt) (is-eq _ _ (h .1 .1 .0)) (ltb-false (sourceMost * unit) (sizeOf (c .r)) (h .1 .1 .1 .0)) in
-    record { e = natAbs (c .e .value); is = n .0; small = n .1; m = sizeOf (c .r) / unit; whole = p .0; bound = p .1 }
-
+-- 16
 range-in : (c : Scale) → InRange c → anyOf (scaleFaults c) ≡ false
 unfolding scaleFaults whole
 range-in c h = any-none (scaleFaults c) (

@@ -2,7 +2,7 @@
 use Prim.Native.Nat.{ℕ, _+_, _-_, _*_, _/_, _%_, _^_, _≤_, _<_}
 use mathlib.Core.Bool.{true, false}
 use mathlib.Core.Path.{_≡_, refl, sym, ap, ap₂, _∙_}
-use mathlib.Core.List.{List, [], _∷_, _++_, append-nil}
+use mathlib.Core.List.{List, [], _++_, append-nil}
 use mathlib.Core.Logic.{⊎-elim}
 use native.Mathlib.Omega.{arith}
 use native.Mathlib.Nat.{zero-add, le-refl}
@@ -10,7 +10,7 @@ use borrow.Author.Tests.{ne-eqb, eqb-false}
 use lib.ListN.{length, take, drop}
 use lib.Seq.{take-length}
 use lib.IntN.{natAbs}
-use Rattle.bits.specs.Bits.{bitsIn, runs, octetsFor}
+use Rattle.bits.specs.Bits.{bitsIn, runs}
 use Rattle.bits.proofs.Runs.{bitsIn-bits, lt-or-ge}
 use Rattle.bits.proofs.Trip.{Wide, length-runs, runs-ext, bits-runs, bits-past, runs-own, wide-runs}
 use Rattle.bits.proofs.Cut.{cut, bits-drop, octets-here}
@@ -18,30 +18,14 @@ use Rattle.bits.proofs.Marks.{zeros-of}
 use Rattle.bits.proofs.Ones.{count-zero}
 use Rattle.rules.specs.declared.{Packing.Packing, Scale.Scale}
 use Rattle.rules.specs.Bounds.{bdsLeast, pointsMost, bitsMost}
-use Rattle.rules.specs.Numbers.{Field, field, signedField, laid, evenFrom, octet, number, sign}
+use Rattle.rules.specs.Numbers.{laid, octet, number, sign}
 use Rattle.rules.specs.Values.{packingAt, scaleAt, lengthBad, valuesAt, bdsOf}
 use Rattle.rules.specs.RoundTrip.{minusZero, dataPaddingSet}
-use Rattle.theorems.proofs.Rows.{not-eq, is-eq}
-use Rattle.theorems.proofs.Fields.{Fit, Back, all-back, after-fields, laid-append, laid-length, stands, here, one}
-use Rattle.theorems.proofs.Signs.{signed-read, spelled-lt, plus, signed-here}
+use Rattle.laws.proofs.Rows.{not-eq, is-eq}
+use Rattle.laws.proofs.Fields.{Fit, Back, all-back, after-fields, laid-append, stands, here, one}
+use Rattle.laws.proofs.Lengths.{dataLen, unused, dataFields, dataBits, bds-laid, bds-length}
+use Rattle.laws.proofs.Signs.{signed-read, spelled-lt, plus, signed-here}
 use Rattle.theorems.proofs.Laid.{Sec, whole-sec, partIs}
-
--- a section's length, of t bits after its 11 octets, and the bits left over
-abbrev dataLen : ℕ → ℕ
-dataLen t = evenFrom (11 + octetsFor t)
-
-abbrev unused : ℕ → ℕ
-unused t = 8 * (dataLen t - 11) - t
-
-abbrev dataFields : Packing → Scale → ℕ → List Field
-dataFields p c t = field 3 (dataLen t) ∷ field 1 (p .flags * 16 + unused t) ∷ signedField 2 (c .e) ∷ field 4 (c .r) ∷ field 1 (p .bits) ∷ []
-
-abbrev dataBits : Packing → List ℕ → List ℕ
-dataBits p xs = runs (bitsIn (p .bits) xs) 0 8 (dataLen (length xs * p .bits) - 11)
-
-bds-laid : (p : Packing) (c : Scale) (xs : List ℕ) → bdsOf p c xs ≡ laid (dataFields p c (length xs * p .bits)) (dataBits p xs)
-unfolding bdsOf
-bds-laid p c xs = refl
 
 -- what the writer's rows 11 and 13 and the fields' types leave
 pub record DataOk (p : Packing) (c : Scale) (xs : List ℕ) : Type 0 where
@@ -54,13 +38,6 @@ pub record DataOk (p : Packing) (c : Scale) (xs : List ℕ) : Type 0 where
 
 data-fit : (p : Packing) (c : Scale) (xs : List ℕ) → DataOk p c xs → Fit (dataFields p c (length xs * p .bits))
 data-fit p c xs o = (omega (arith, o .few), (omega (arith, o .flags), (spelled-lt 2 (sign 2 + sign 2) (c .e .value) refl (o .e), (o .r, (o .bits, tt)))))
-
-pub bds-length : (p : Packing) (c : Scale) (xs : List ℕ) → length (bdsOf p c xs) ≡ dataLen (length xs * p .bits)
-bds-length p c xs =
-    let t = length xs * p .bits in
-    let e : length (dataBits p xs) ≡ dataLen t - 11 = length-runs (bitsIn (p .bits) xs) 0 8 (dataLen t - 11) in
-    let g : length (laid (dataFields p c t) (dataBits p xs)) ≡ 11 + length (dataBits p xs) = laid-length (dataFields p c t) (dataBits p xs) in
-    ap length (bds-laid p c xs) ∙ omega arith
 
 pub bds-sec : (p : Packing) (c : Scale) (xs : List ℕ) → DataOk p c xs → Sec true bdsLeast (bdsOf p c xs)
 bds-sec p c xs o =

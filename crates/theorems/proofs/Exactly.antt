@@ -17,9 +17,9 @@ use Rattle.rules.specs.Values.{scaleAt}
 use Rattle.rules.specs.Reading.{gridIn, bitmapIn, scaleIn}
 use Rattle.rules.specs.Writing.{Parts, pointsFor, message, writeRefusal, writeOf, outputAfter}
 use Rattle.rules.specs.RoundTrip.{partsIn, minusZero, bitmapPaddingSet, dataPaddingSet, canonical}
-use Rattle.theorems.specs.Reads.{Taken}
+use Rattle.laws.specs.Taken.{Taken}
 use Rattle.theorems.specs.Returns.{Below, GridFits, NumberFits, WriteAfterReadExactly, WrittenCanonical}
-use Rattle.theorems.proofs.Rows.{true-is}
+use Rattle.laws.proofs.Rows.{true-is}
 use Rattle.theorems.proofs.Replies.{handed-is}
 use Rattle.theorems.proofs.GridSection.{GridClean, found-clean}
 use Rattle.theorems.proofs.BitmapSection.{map-clean}

@@ -11,17 +11,18 @@ use lib.IntN.{natAbs}
 use Rattle.bits.proofs.Trip.{Wide}
 use Rattle.rules.specs.declared.{Part.Part, Grid.Grid, Found.Found, Found.the-variants.Nothing, Found.the-variants.Given}
 use Rattle.rules.specs.Bounds.{gdsLeast, gdsLength, latitudeMost, longitudeMost}
-use Rattle.rules.specs.Numbers.{laid, octet, number, sign}
+use Rattle.rules.specs.Numbers.{octet, number, sign}
 use Rattle.rules.specs.Table.{anyOf}
 use Rattle.rules.specs.Grid.{gridAt, gridFields, gdsOf, gridFrom, lookup, catalogue, theGrid, gdsFaults, gridFaults}
 use Rattle.rules.specs.Writing.{gridGiven, gdsFor}
 use Rattle.rules.specs.RoundTrip.{minusZero}
 use Rattle.theorems.specs.Returns.{GridFits}
-use Rattle.theorems.proofs.Rows.{none-of, any-none, not-eq, is-eq}
-use Rattle.theorems.proofs.Tiles.{Cut}
-use Rattle.theorems.proofs.Fields.{Fit, Back, all-back, laid-append, laid-length, stands, here, one, absent-here}
-use Rattle.theorems.proofs.Whole.{within}
-use Rattle.theorems.proofs.Signs.{signed-read, spelled-lt, plus, signed-here}
+use Rattle.laws.proofs.Rows.{none-of, any-none, not-eq, is-eq}
+use Rattle.laws.proofs.Sections.{Cut}
+use Rattle.laws.proofs.Fields.{Fit, Back, all-back, laid-append, stands, here, one, absent-here}
+use Rattle.laws.proofs.Lengths.{gds-laid, gds-length}
+use Rattle.laws.proofs.Whole.{within}
+use Rattle.laws.proofs.Signs.{signed-read, spelled-lt, plus, signed-here}
 use Rattle.theorems.proofs.Laid.{Sec, empty-sec, whole-sec, partIs}
 
 -- what of a grid the writer's row 9 and the fields' types leave
@@ -44,20 +45,12 @@ grid-ok g f e =
       lo2 = omega (arith, within longitudeMost (g .lo2 .value) (h .1 .1 .1 .0));
     }
 
-gds-laid : (g : Grid) → gdsOf g ≡ laid (gridFields g) []
-unfolding gdsOf
-gds-laid g = refl
-
 grid-fit : (g : Grid) → GridOk g → Fit (gridFields g)
 unfolding gridFields
 grid-fit g o =
     let f = o .fits in
     let top = sign 3 + sign 3 in
     (omega arith, (omega arith, (omega arith, (omega arith, (f .0, (f .1, (spelled-lt 3 top (g .la1 .value) refl (o .la1), (spelled-lt 3 top (g .lo1 .value) refl (o .lo1), (f .2, (spelled-lt 3 top (g .la2 .value) refl (o .la2), (spelled-lt 3 top (g .lo2 .value) refl (o .lo2), (f .3, (f .4, (f .5, (omega arith, tt)))))))))))))))
-
-pub gds-length : (g : Grid) → length (gdsOf g) ≡ gdsLength
-unfolding gridFields
-gds-length g = ap length (gds-laid g) ∙ laid-length (gridFields g) []
 
 gds-sec : (g : Grid) → GridOk g → Sec true gdsLeast (gdsOf g)
 unfolding gridFields

@@ -27,14 +27,14 @@ use Rattle.rules.specs.Points.{valueAt, scattered}
 use Rattle.rules.specs.Values.{packingAt, scaleAt, packingFaults, lengthBad, valuesAt}
 use Rattle.rules.specs.Reading.{gridIn, gridOf, pointsIn, bitmapIn, inForceIn, presentIn, presentCount, packingIn, scaleIn, valuesIn, marksIn}
 use Rattle.rules.specs.RoundTrip.{partsIn}
-use Rattle.theorems.specs.Reads.{Taken}
+use Rattle.laws.specs.Taken.{Taken}
 use Rattle.theorems.specs.Returns.{Below, Ignored, reserved, bitmap, padding, PaddingIgnored}
-use Rattle.theorems.proofs.Rows.{taken-by, none-of, is-true, is-eq}
-use Rattle.theorems.proofs.Judged.{Judged, judged, unjudged}
-use Rattle.theorems.proofs.Tiles.{Sections, sections}
-use Rattle.theorems.proofs.Fields.{one}
+use Rattle.laws.proofs.Rows.{taken-by, none-of, is-true, is-eq}
+use Rattle.laws.proofs.Judged.{Judged, judged, unjudged}
+use Rattle.laws.proofs.Sections.{Sections, sections}
+use Rattle.laws.proofs.Fields.{one}
 use Rattle.theorems.proofs.GridSection.{from-same}
-use Rattle.theorems.proofs.Reoffered.{kind}
+use Rattle.laws.proofs.Bounded.{kind}
 
 module _ (s o : List ℕ) (lent : Lent) (ws : Below 256 s) (wo : Below 256 o) (len : length o ≡ length s) (same : (i : ℕ) → (Ignored s lent i → ⊥) → bitsIn 8 o i ≡ bitsIn 8 s i) (t : Taken s lent) where
   at : Sections s
@@ -73,7 +73,7 @@ module _ (s o : List ℕ) (lent : Lent) (ws : Below 256 s) (wo : Below 256 o) (l
   map-end e =
       let h = none-of _ (subst (λ (m : Bitmap). anyOf (bitmapFaults s lent (placesOf s .bms) m n) ≡ false) e (j .bitmap)) in
       let r : 8 * (placesOf s .bms .len - 6) ≡ n + octet s M 4 = is-eq _ _ (h .1 .0) in
-      omega (arith, r, at .at-bds, map-head (kind s lent t ∙ ap bitmapGiven e))
+      omega (arith, r, at .at-bds, map-head (kind s ∙ ap bitmapGiven e))
 
   data-end : (D + 11) * 8 + used ≤ end * 8
   unfolding lengthBad
@@ -222,7 +222,7 @@ module _ (s o : List ℕ) (lent : Lent) (ws : Below 256 s) (wo : Below 256 o) (l
   map-octet h = by-bits (M + 3) (map-bits h ((M + 3) * 8) 8 (omega arith) (omega arith))
 
   given-there : (m : Bitmap) → bitmapIn s ≡ m → bitmapGiven m ≡ true → hasBitmap s pdsStart ≡ true
-  given-there m e g = kind s lent t ∙ ap bitmapGiven e ∙ g
+  given-there m e g = kind s ∙ ap bitmapGiven e ∙ g
 
   present-as : (m : Bitmap) → bitmapIn s ≡ m → (i : ℕ) → i < n
       → presentBy m (bitmapOctets o (lent .octets) (inForce m (placesOf s .bms) n)) i ≡ presentBy m (bitmapOctets s (lent .octets) (inForce m (placesOf s .bms) n)) i

@@ -16,8 +16,8 @@ use Rattle.rules.specs.Numbers.{Field, field, laid, number}
 use Rattle.rules.specs.Table.{anyOf}
 use Rattle.rules.specs.Places.{octetsOf, after, grib, sevens, pdsStart, endStart, hasGrid, hasBitmap, sectionAt, placesOf, sizeBad, markBad, editionBad, totalFaults, sectionFaults, placesFaults}
 use Rattle.rules.specs.Time.{yearOf, momentAt, timeFaults, momentFaults}
-use Rattle.theorems.proofs.Rows.{any-none, clash, gated, not-eq, outside-no}
-use Rattle.theorems.proofs.Fields.{get-at, Back, all-back, after-fields, laid-length}
+use Rattle.laws.proofs.Rows.{any-none, clash, gated, not-eq, outside-no}
+use Rattle.laws.proofs.Fields.{get-at, Back, all-back, after-fields, laid-length}
 
 -- a section's octets: absent and none, or there, with its length in its first three
 pub record Sec (there : Bool) (low : ℕ) (p : List ℕ) : Type 0 where

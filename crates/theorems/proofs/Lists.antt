@@ -9,7 +9,7 @@ use Rattle.bits.specs.Tables.{tab}
 use Rattle.bits.proofs.Fill.{length-tab, getD-tab}
 use Rattle.rules.specs.declared.{Refusal.Refusal}
 use Rattle.rules.specs.Table.{accepted, filled}
-use Rattle.theorems.proofs.Rows.{is-true}
+use Rattle.laws.proofs.Rows.{is-true}
 use Rattle.theorems.proofs.Replies.{accepted-fills}
 
 pub filled-at : (r : Refusal) (g : ℕ → ℕ) (n : ℕ) (lent : List ℕ) (i : ℕ) → T (accepted r) → i < n → getD (filled r (tab g n) lent) i 0 ≡ g i

@@ -12,7 +12,7 @@ use Rattle.bits.proofs.Below.{upto}
 use Rattle.rules.specs.Writing.{message}
 use Rattle.rules.specs.RoundTrip.{partsIn, stains}
 use Rattle.rules.proofs.Computes.{computes, specimen, nothing}
-use Rattle.theorems.specs.Reads.{Taken}
+use Rattle.laws.specs.Taken.{Taken}
 use Rattle.theorems.specs.Returns.{Below, only, Stained, StainsNeeded}
 
 -- every number of a list is an octet

@@ -1,15 +1,15 @@
 -- What the parts are that the writer accepts: its eight rows as named facts, there and back, and what each leaves. Nothing else looks at its table by position.
 use Prim.Native.Nat.{ℕ, _^_, _≤_, _<_}
-use mathlib.Core.Bool.{Bool, true, false, not, _||_, _&&_}
+use mathlib.Core.Bool.{Bool, true, false, not}
 use mathlib.Core.Path.{_≡_, refl, sym, subst}
 use mathlib.Core.List.{List, _∷_}
 use mathlib.Core.Logic.{⊎-elim}
 use native.Mathlib.Omega.{arith}
 use native.Mathlib.Nat.{mul-le-mul}
-use borrow.Author.Tests.{ltb-false, leb-false, eqb-true, eq-eqb, not-false}
+use borrow.Author.Tests.{ltb-false, eqb-true, not-false}
 use lib.Pow.{pow-pos}
 use lib.ListN.{length, List·getD-eq-default}
-use lib.Dec.{T, ltb, leb, eqb}
+use lib.Dec.{T, ltb, eqb}
 use Rattle.bits.specs.Bits.{bitsIn}
 use Rattle.bits.proofs.Runs.{Bits, lt-or-ge}
 use Rattle.bits.proofs.Ones.{count-le}
@@ -25,13 +25,14 @@ use Rattle.rules.specs.Bitmap.{Lent, bitmapGiven, markOf, valueOf, lentFaults}
 use Rattle.rules.specs.Points.{gathered}
 use Rattle.rules.specs.Values.{packingFaults}
 use Rattle.rules.specs.Writing.{Parts, gridFor, pointsFor, pdsFaults, listsFit, storedFaults, gridGiven, pointBad, differ, partsFaults, message, writeTable, writeRefusal}
-use Rattle.theorems.specs.Replies.{Clear}
+use Rattle.laws.specs.Tables.{Clear}
 use Rattle.theorems.specs.Returns.{NumberFits}
-use Rattle.bits.proofs.Tests.{or-false, both}
-use Rattle.theorems.proofs.Rows.{NoneOf, clear, accepts, none-of, any-none, and-false, clash, is-eq, inside}
-use Rattle.theorems.proofs.Whole.{within}
+use Rattle.bits.proofs.Tests.{both}
+use Rattle.laws.proofs.Rows.{NoneOf, clear, accepts, none-of, any-none, and-false, clash, is-eq, inside}
+use Rattle.laws.proofs.Whole.{within}
 use Rattle.theorems.proofs.Laid.{Sec, whole-sec}
-use Rattle.theorems.proofs.Gathered.{length-gathered, wide-gathered}
+use Rattle.laws.proofs.Gathered.{length-gathered, wide-gathered}
+use Rattle.laws.proofs.Points.{flags-two, PointOk, point-ok}
 use Rattle.theorems.proofs.DataSection.{DataOk}
 use Rattle.theorems.proofs.BitmapSection.{MapOk}
 
@@ -65,29 +66,6 @@ same true true e = refl
 same true false e = e
 same false true e = sym e
 same false false e = refl
-
-pub flags-two : (f : ℕ) (a b : Bool) → eqb f 0 ≡ a → eqb f 2 ≡ b → not (a || b) ≡ false → f ≤ 2
-flags-two f true b p q e = omega (arith, eqb-true f 0 p)
-flags-two f false true p q e = omega (arith, eqb-true f 2 q)
-flags-two f false false p q e = clash true refl e
-
--- what row 13 leaves of a point
-pub record PointOk (bitmap : Bool) (bits m v : ℕ) : Type 0 where
-  pub mark : m < 2
-  pub absent : m ≡ 0 → (bitmap ≡ true) × (v ≡ 0)
-  pub value : v < 2 ^ bits
-
-absent-ok : (bitmap : Bool) (mark value : ℕ) → (eqb mark 0 && (not bitmap || not (eqb value 0))) ≡ false → mark ≡ 0 → (bitmap ≡ true) × (value ≡ 0)
-absent-ok bitmap mark value e z =
-    let h = or-false (not bitmap) (not (eqb value 0)) (and-false (eqb mark 0) _ (eq-eqb mark 0 z) e) in
-    (not-false bitmap (h .0), is-eq value 0 (h .1))
-
-pub point-ok : (bitmap : Bool) (bits mark value : ℕ) → pointBad bitmap bits mark value ≡ false → PointOk bitmap bits mark value
-unfolding pointBad
-point-ok bitmap bits mark value e =
-    let h = or-false (ltb 1 mark || (eqb mark 0 && (not bitmap || not (eqb value 0)))) (leb (2 ^ bits) value) e in
-    let k = or-false (ltb 1 mark) (eqb mark 0 && (not bitmap || not (eqb value 0))) (h .0) in
-    record { mark = omega (arith, ltb-false 1 mark (k .0)); absent = absent-ok bitmap mark value (k .1); value = leb-false (2 ^ bits) value (h .1) }
 
 map-of : (m : Bitmap) (lent : Lent) (values marks : List ℕ) (n : ℕ) → NumberFits m → listsFit values marks n ≡ true → anyOf (storedFaults m lent values marks n) ≡ false
     → ((i : ℕ) → i < n → (markOf marks i < 2) × (markOf marks i ≡ 0 → bitmapGiven m ≡ true)) → MapOk m lent (markOf marks) n

@@ -25,10 +25,10 @@ use Rattle.rules.specs.Packing.{exponent, packed, packTable, packRefusal}
 use Rattle.theorems.specs.Replies.{Among, onceTable, PackerOnce}
 use Rattle.theorems.specs.Checks.{NothingFits, NoStepReply}
 use Rattle.bits.proofs.Tests.{or-false}
-use Rattle.theorems.proofs.Rows.{none-of, any-none, is-true}
+use Rattle.laws.proofs.Rows.{none-of, any-none, is-true}
 use Rattle.theorems.proofs.Replies.{reply-among}
-use Rattle.theorems.proofs.Whole.{ltZ-antisym, beyond-no}
-use Rattle.theorems.proofs.Sources.{well-formed, formed-well}
+use Rattle.laws.proofs.Whole.{ltZ-antisym, beyond-no}
+use Rattle.laws.proofs.Sources.{well-formed, formed-well}
 use Rattle.theorems.proofs.Steps.{no-step-fits}
 use Rattle.theorems.proofs.Checked.{decimal-no}
 

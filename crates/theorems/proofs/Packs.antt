@@ -27,15 +27,16 @@ use Rattle.rules.specs.Writing.{Parts, pdsFaults, message, writeRefusal}
 use Rattle.rules.specs.RoundTrip.{partsIn}
 use Rattle.rules.specs.Checking.{Source, numberOf, presentOf, sourceFaults, decimalDiffers, checkOf}
 use Rattle.rules.specs.Packing.{reference, spellingOf, stepped, above, exponent, packedAt, packed, packTable, packRefusal, packOf, packedAfter}
-use Rattle.theorems.specs.Reads.{Taken}
-use Rattle.theorems.specs.Checks.{AtPresent, WellFormed, Agrees, InRange, Near, PackedPasses, Packable, PackExactly}
+use Rattle.laws.specs.Taken.{Taken}
+use Rattle.laws.specs.Sources.{AtPresent, WellFormed, Agrees, InRange}
+use Rattle.theorems.specs.Checks.{Near, PackedPasses, Packable, PackExactly}
 use Rattle.bits.proofs.Tests.{or-false}
-use Rattle.theorems.proofs.Rows.{passed, accepts, taken-by}
+use Rattle.laws.proofs.Rows.{passed, accepts, taken-by}
 use Rattle.theorems.proofs.Replies.{handed-is}
 use Rattle.theorems.proofs.Told.{decimal-same}
-use Rattle.theorems.proofs.Whole.{ltZ-antisym}
-use Rattle.theorems.proofs.Sources.{well-formed, formed-well}
-use Rattle.theorems.proofs.Lowest.{reference-under, reference-most}
+use Rattle.laws.proofs.Whole.{ltZ-antisym}
+use Rattle.laws.proofs.Sources.{well-formed, formed-well}
+use Rattle.laws.proofs.Lowest.{reference-under, reference-most}
 use Rattle.theorems.proofs.Steps.{no-step-fits}
 use Rattle.theorems.proofs.Offered.{offered, packing-none, rows}
 use Rattle.theorems.proofs.Rounded.{near}

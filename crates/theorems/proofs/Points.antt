@@ -18,12 +18,13 @@ use Rattle.rules.specs.Bitmap.{Lent, bitmapOctets, bitmapGiven, presentBy}
 use Rattle.rules.specs.Points.{numbered, absent, outside, dataNumber, valueAt, scattered}
 use Rattle.rules.specs.Values.{lengthBad, valuesAt}
 use Rattle.rules.specs.Reading.{ownRefusal, bitmapIn, inForceIn, pointsIn, presentIn, presentCount, packingIn, valuesIn, marksIn, foundBy, foundIn, refusedBy, answerBy, headerOf, readRefusal, valuesAfter, marksAfter, numberingOf}
-use Rattle.theorems.specs.Reads.{Taken, OwnNumber, ValueAtPoint, ReadKeeps, PresentCounted}
-use Rattle.theorems.proofs.Rows.{is-true, is-eq}
+use Rattle.laws.specs.Taken.{Taken}
+use Rattle.theorems.specs.Reads.{OwnNumber, ValueAtPoint, ReadKeeps, PresentCounted}
+use Rattle.laws.proofs.Rows.{is-true, is-eq}
 use Rattle.theorems.proofs.Lists.{filled-at, filled-after}
-use Rattle.theorems.proofs.Judged.{judged, read-taken}
+use Rattle.laws.proofs.Judged.{judged, read-taken}
 use Rattle.theorems.proofs.BitmapSection.{present-bits}
-use Rattle.theorems.proofs.Gathered.{number-lt, value-there, value-away}
+use Rattle.laws.proofs.Gathered.{number-lt, value-there, value-away}
 
 module _ (s : List ℕ) (lent : Lent) (t : Taken s lent) (i : ℕ) (l : i < pointsIn s) where
   abbrev p : ℕ → ℕ

@@ -21,15 +21,16 @@ use Rattle.rules.specs.Values.{packingAt, scaleAt, packingFaults, lengthBad, va
 use Rattle.rules.specs.Reading.{gridIn, gridOf, pointsIn, bitmapIn, inForceIn, presentIn, presentCount, packingIn, scaleIn, valuesIn, marksIn, ownRefusal}
 use Rattle.rules.specs.Writing.{Parts, gridFor, pointsFor, gridGiven, gdsFor, sectionsFor, message, writeRefusal}
 use Rattle.rules.specs.RoundTrip.{partsIn}
-use Rattle.theorems.specs.Reads.{Taken}
+use Rattle.laws.specs.Taken.{Taken}
 use Rattle.theorems.specs.Returns.{GridFits, NumberFits}
-use Rattle.theorems.proofs.Rows.{taken-by}
-use Rattle.theorems.proofs.Judged.{unjudged}
-use Rattle.theorems.proofs.Fields.{laid-length}
+use Rattle.laws.proofs.Rows.{taken-by}
+use Rattle.laws.proofs.Judged.{unjudged}
+use Rattle.laws.proofs.Fields.{laid-length}
 use Rattle.theorems.proofs.Laid.{Sec, ahead, ending, body, length-body, laidPlaces, Laid, at-g, at-m, at-d, pds-octet, same-grid, same-bitmap, laid-places, size-none, mark-none, edition-none, total-none, places-none, time-none, pds-back}
 use Rattle.theorems.proofs.GridSection.{FoundOk, found-ok, found-sec, found-most, found-back, found-none, from-same}
-use Rattle.theorems.proofs.Gathered.{length-gathered, scattered-back, marks-back}
-use Rattle.theorems.proofs.DataSection.{DataOk, bds-length, bds-sec, packing-back, scale-back, length-none, values-back}
+use Rattle.laws.proofs.Gathered.{length-gathered, scattered-back, marks-back}
+use Rattle.theorems.proofs.DataSection.{DataOk, bds-sec, packing-back, scale-back, length-none, values-back}
+use Rattle.laws.proofs.Lengths.{bds-length}
 use Rattle.theorems.proofs.BitmapSection.{MapOk, bms-most, bms-sec, bitmap-back, bitmap-none, present-back}
 use Rattle.theorems.proofs.Offered as offer
 use Rattle.theorems.proofs.Offered.{Offer, offered}

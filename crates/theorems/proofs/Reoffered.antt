@@ -20,7 +20,7 @@ use Rattle.rules.specs.declared.{Part.Part, Grid.Grid, Found.Found, Found.the-v
 use Rattle.rules.specs.Bounds.{pdsLeast, pdsMost, exponentMost}
 use Rattle.rules.specs.Numbers.{number, sign, signed, beyond}
 use Rattle.rules.specs.Table.{accepted, anyOf}
-use Rattle.rules.specs.Places.{pdsStart, hasGrid, hasBitmap, sectionAt, placesOf}
+use Rattle.rules.specs.Places.{pdsStart, hasGrid, sectionAt, placesOf}
 use Rattle.rules.specs.Grid.{gridAt, gridMissing, theGrid, gridFaults, pointsOf}
 use Rattle.rules.specs.Bitmap.{Lent, bitmapFaults, bitmapGiven, inForce, bitmapOctets, presentBy, markOf, valueOf}
 use Rattle.rules.specs.Points.{valueAt, scattered, gathered}
@@ -28,17 +28,18 @@ use Rattle.rules.specs.Values.{scaleAt, packingFaults, valuesAt}
 use Rattle.rules.specs.Reading.{gridIn, gridOf, pointsIn, bitmapIn, inForceIn, presentIn, presentCount, packingIn, scaleIn, valuesIn, marksIn}
 use Rattle.rules.specs.Writing.{Parts, gridFor, pointsFor, pdsFaults, listsFit, storedFaults, gridGiven, pointBad, differ, partsFaults, message, writeRefusal}
 use Rattle.rules.specs.RoundTrip.{partsIn}
-use Rattle.theorems.specs.Reads.{Taken}
+use Rattle.laws.specs.Taken.{Taken}
 use Rattle.bits.proofs.Tests.{or-none}
-use Rattle.theorems.proofs.Rows.{none-of, any-none, gated, not-eq, outside-no, taken-by}
-use Rattle.theorems.proofs.Judged.{Judged, judged}
-use Rattle.theorems.proofs.Tiles.{Sections, sections}
-use Rattle.theorems.proofs.Whole.{beyond-no}
-use Rattle.theorems.proofs.Signs.{signed-size}
+use Rattle.laws.proofs.Rows.{none-of, any-none, gated, not-eq, outside-no, taken-by}
+use Rattle.laws.proofs.Judged.{Judged, judged}
+use Rattle.laws.proofs.Bounded.{kind}
+use Rattle.laws.proofs.Sections.{Sections, sections}
+use Rattle.laws.proofs.Whole.{beyond-no}
+use Rattle.laws.proofs.Signs.{signed-size}
 use Rattle.theorems.proofs.Laid.{grid-same, bitmap-same, time-same}
 use Rattle.theorems.proofs.GridSection.{from-same}
-use Rattle.theorems.proofs.Gathered.{gathered-back, value-away, value-lt}
-use Rattle.theorems.proofs.BitmapSection.{map-says, present-bits, present-absent}
+use Rattle.laws.proofs.Gathered.{gathered-back, value-away, value-lt}
+use Rattle.theorems.proofs.BitmapSection.{present-bits, present-absent}
 use Rattle.theorems.proofs.Offered.{unoffered}
 
 -- the writer's row 10, of a bitmap that the reader took
@@ -146,10 +147,6 @@ module _ (s : List ℕ) (lent : Lent) (t : Taken s lent) where
   unfolding partsIn valuesIn marksIn presentCount
   packed-is = gathered-back (presentIn s lent) present xs n xs-length
 
-  pub kind : hasBitmap s pdsStart ≡ bitmapGiven (bitmapIn s)
-  unfolding bitmapIn
-  kind = map-says s (hasBitmap s pdsStart) (placesOf s .bms .start) .0
-
   -- the writer's rows
   row5 : anyOf (pdsFaults (w .pds)) ≡ false
   unfolding pdsFaults
@@ -200,7 +197,7 @@ module _ (s : List ℕ) (lent : Lent) (t : Taken s lent) where
       no-below _ (pointsFor w) (λ i l. point i (subst (λ (x : ℕ). i < x) points-for l)),
       (
         differ-none _ _ (sym (grid-same s pdsStart (w .pds) pds-octet) ∙ grid-given (hasGrid s pdsStart) (gridAt s (placesOf s .gds .start))),
-        (differ-none _ _ (sym (bitmap-same s pdsStart (w .pds) pds-octet) ∙ kind), tt),
+        (differ-none _ _ (sym (bitmap-same s pdsStart (w .pds) pds-octet) ∙ kind s), tt),
       ),
     ),
   )

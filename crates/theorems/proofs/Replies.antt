@@ -17,8 +17,9 @@ use Rattle.rules.specs.Display.{displayTable, displayOf}
 use Rattle.rules.specs.Writing.{lengthOf, writeTable, writeRefusal, writeOf}
 use Rattle.rules.specs.Checking.{checkTable}
 use Rattle.rules.specs.Packing.{packTable, packRefusal, packOf}
-use Rattle.theorems.specs.Replies.{Clear, Stops, RefusalFirst, numbers, Among, ReplyAmong, RowNumbers, Whole, TakenOrRefused, RefusalKeeps, AcceptedFills}
-use Rattle.theorems.proofs.Rows.{is-true}
+use Rattle.laws.specs.Tables.{Clear}
+use Rattle.theorems.specs.Replies.{Stops, RefusalFirst, numbers, Among, ReplyAmong, RowNumbers, Whole, TakenOrRefused, RefusalKeeps, AcceptedFills}
+use Rattle.laws.proofs.Rows.{is-true}
 
 on-top : (test : Bool) (r : Refusal) (rows : List Row) → (Clear rows × (first rows ≡ refusal 0)) ⊎ Stops rows (first rows)
     → (Clear (given r test ∷ rows) × (cond test r (first rows) ≡ refusal 0)) ⊎ Stops (given r test ∷ rows) (cond test r (first rows))

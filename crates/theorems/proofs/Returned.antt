@@ -6,7 +6,8 @@ use lib.ListN.{length}
 use Rattle.rules.specs.Reading.{pointsIn}
 use Rattle.rules.specs.Writing.{Parts, pointsFor, message, writeRefusal, writeOf, outputAfter}
 use Rattle.rules.specs.RoundTrip.{partsIn}
-use Rattle.theorems.specs.Reads.{Taken, Tells}
+use Rattle.laws.specs.Taken.{Taken}
+use Rattle.theorems.specs.Reads.{Tells}
 use Rattle.theorems.specs.Returns.{Returned, ReadAfterWrite}
 use Rattle.theorems.proofs.Replies.{handed-is}
 use Rattle.theorems.proofs.Reoffered.{points-for}

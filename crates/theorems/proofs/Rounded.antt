@@ -8,7 +8,7 @@ use lib.Pow.{pow-pos}
 use lib.IntN.{ℤ, pos, natAbs, _-ℤ_}
 use lib.Signed.{ltZ}
 use Rattle.rules.specs.Packing.{stepped}
-use Rattle.theorems.proofs.Whole.{twice-apart, gap}
+use Rattle.laws.proofs.Whole.{twice-apart, gap}
 
 record Rounded (e r x : ℕ) : Type 0 where
   over : 2 * (x * 2 ^ e) ≤ 2 * r + 2 ^ e

@@ -14,7 +14,7 @@ use lib.Ieee.Exact.{HasValue, odd-sign}
 use Rattle.rules.specs.Values.{sOf, aOf, bOf, sizeOf, unit}
 use Rattle.rules.specs.Display.{refBits, stepBits, shownReference, shownStep}
 use Rattle.theorems.specs.Reads.{ShownExactly}
-use Rattle.theorems.proofs.Lead.{lead, some}
+use Rattle.laws.proofs.Lead.{lead, some}
 
 -- a sign, a field from 1 to 2046 and 52 digits are read as those
 fields : (s : Bool) (x t n : ℕ) → x < 2046 → leb (2 ^ 63) n ≡ s → n % 2 ^ 63 / 2 ^ 52 ≡ suc x → n % 2 ^ 52 ≡ t → HasValue (ofBits binary64 n) s ((2 ^ 52 + t) * 2 ^ x) (2 ^ 1074)

@@ -1,59 +1,38 @@
 -- The packer's E is the least for which all X fit, and none of 0 to 24 does exactly where N is 0 and the spread is half of the greatest step or more: there X is 1 at every
 -- E, and elsewhere X at E = 24 is at most 1, below 2^N.
 use Prim.Native.Nat.{ℕ, zero, suc, _-_, _*_, _^_, _≤_, _<_}
-use mathlib.Core.Bool.{Bool, true, false, not}
+use mathlib.Core.Bool.{true}
 use mathlib.Core.Logic.{⊎-elim}
 use mathlib.Core.Path.{_≡_, refl, sym, subst, ap}
 use native.Mathlib.Omega.{arith}
 use native.Mathlib.Nat.{le-div-iff-mul-le, pow-suc}
-use borrow.Author.Tests.{leb-true, leb-false, lt-leb, not-true, not-false}
-use lib.Dec.{leb}
+use borrow.Author.Tests.{leb-true, not-false}
 use lib.Pow.{pow-pos, pow-mono}
 use Rattle.bits.proofs.Runs.{lt-or-ge}
-use Rattle.bits.proofs.Below.{Least, least}
 use Rattle.rules.specs.Bounds.{sourceMost, stepMost, flatSpread}
 use Rattle.rules.specs.Checking.{Source}
 use Rattle.rules.specs.Packing.{stepped, above, tooWide, exponent}
-use Rattle.theorems.specs.Checks.{SomePresent, Fits, LeastStep, NoStepFits}
-use Rattle.theorems.proofs.Rows.{clash}
-use Rattle.theorems.proofs.Sources.{at-none, none-at, some-at}
-use Rattle.theorems.proofs.Lowest.{above-most}
+use Rattle.laws.specs.Sources.{SomePresent, Fits}
+use Rattle.theorems.specs.Checks.{LeastStep, NoStepFits}
+use Rattle.laws.proofs.Rows.{clash}
+use Rattle.laws.proofs.Sources.{some-at}
+use Rattle.laws.proofs.Steps.{wide, of-fits, exponent-is, step-fits}
+use Rattle.laws.proofs.Lowest.{above-most}
 
 module _ (f : Source) (bits : ℕ) where
-  abbrev wide : ℕ → ℕ → Bool
-  wide e i = leb (2 ^ bits) (stepped e (above f i))
-
-  abbrev fitting : ℕ → Bool
-  fitting e = not (tooWide f bits e)
-
-  fits-of : (e : ℕ) → tooWide f bits e ≡ false → Fits f bits e
-  unfolding tooWide
-  fits-of e h i l p = leb-false (2 ^ bits) (stepped e (above f i)) (at-none f (wide e) h i l p)
-
-  of-fits : (e : ℕ) → Fits f bits e → tooWide f bits e ≡ false
-  unfolding tooWide
-  of-fits e h = none-at f (wide e) (λ i l p. lt-leb (2 ^ bits) (stepped e (above f i)) (h i l p))
-
-  exponent-is : Least fitting (suc stepMost) (exponent f bits)
-  unfolding exponent
-  exponent-is = least fitting (suc stepMost)
-
-  -- at an E that 19 does not refuse all X fit, and at a smaller one some X does not
-  pub step-fits : exponent f bits ≤ stepMost → Fits f bits (exponent f bits)
-  step-fits l = fits-of (exponent f bits) (not-true _ (exponent-is .passes (omega arith)))
-
+  -- at a smaller E some X does not fit
   step-wide : (e : ℕ) → e < exponent f bits → tooWide f bits e ≡ true
-  step-wide e l = not-false (tooWide f bits e) (exponent-is .before e l)
+  step-wide e l = not-false (tooWide f bits e) (exponent-is f bits .before e l)
 
-  seen-wide : (e : ℕ) → e < exponent f bits → SomePresent f (λ i. wide e i ≡ true)
+  seen-wide : (e : ℕ) → e < exponent f bits → SomePresent f (λ i. wide f bits e i ≡ true)
   unfolding tooWide
-  seen-wide e l = some-at f (wide e) (step-wide e l)
+  seen-wide e l = some-at f (wide f bits e) (step-wide e l)
 
   none-before : (e : ℕ) → e < exponent f bits → Fits f bits e → ⊥
-  none-before e l h = clash (tooWide f bits e) (step-wide e l) (of-fits e h)
+  none-before e l h = clash (tooWide f bits e) (step-wide e l) (of-fits f bits e h)
 
   the-least : (e : ℕ) → e ≤ stepMost → Fits f bits e → ((k : ℕ) → k < e → Fits f bits k → ⊥) → exponent f bits ≡ e
-  the-least e m h g = ⊎-elim (λ l. absurd (g (exponent f bits) l (step-fits (omega arith))))
+  the-least e m h g = ⊎-elim (λ l. absurd (g (exponent f bits) l (step-fits f bits (omega arith))))
       (λ k. ⊎-elim (λ l. absurd (none-before e l h)) (λ j. same e (exponent f bits) k j) (lt-or-ge e (exponent f bits)))
       (lt-or-ge (exponent f bits) e)
     where

@@ -20,12 +20,13 @@ use Rattle.rules.specs.Points.{scattered}
 use Rattle.rules.specs.Reading.{pointsIn, presentIn, presentCount, packingIn, scaleIn, decimalIn, valuesIn, marksIn, messageTable, parsedOf, foundBy, foundIn, refusedBy, answerBy, readTable, readRefusal, readOf, valuesAfter, marksAfter}
 use Rattle.rules.specs.Writing.{pointsFor}
 use Rattle.rules.specs.RoundTrip.{partsIn}
-use Rattle.theorems.specs.Reads.{Taken, Tells, ReadTells}
+use Rattle.laws.specs.Taken.{Taken}
+use Rattle.theorems.specs.Reads.{Tells, ReadTells}
 use Rattle.bits.proofs.Tests.{or-none}
-use Rattle.theorems.proofs.Rows.{accepts, taken-by, first-after, is-true}
+use Rattle.laws.proofs.Rows.{accepts, taken-by, first-after, is-true}
 use Rattle.theorems.proofs.Lists.{filled-front}
-use Rattle.theorems.proofs.Judged.{rows}
-use Rattle.theorems.proofs.Tiles.{reads-inside}
+use Rattle.laws.proofs.Judged.{rows}
+use Rattle.laws.proofs.Sections.{reads-inside}
 use Rattle.theorems.proofs.Laid.{moment-same}
 use Rattle.theorems.proofs.Reoffered.{w, pds-octet, grid-for, points-for, marks-is}
 

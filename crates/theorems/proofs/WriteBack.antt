@@ -19,16 +19,17 @@ use Rattle.rules.specs.Values.{packingAt, lengthBad, bdsOf}
 use Rattle.rules.specs.Reading.{gridIn, bitmapIn, pointsIn, packingIn, scaleIn, presentCount}
 use Rattle.rules.specs.Writing.{Parts, gdsFor, message, writeRefusal, writeOf, outputAfter}
 use Rattle.rules.specs.RoundTrip.{partsIn, minusZero, bitmapPaddingSet, dataPaddingSet, stains, canonical}
-use Rattle.theorems.specs.Reads.{Taken}
+use Rattle.laws.specs.Taken.{Taken}
 use Rattle.theorems.specs.Returns.{Below, WriteAfterRead}
-use Rattle.theorems.proofs.Rows.{none-of, any-none, is-true, is-eq}
+use Rattle.laws.proofs.Rows.{none-of, any-none, is-true, is-eq}
 use Rattle.theorems.proofs.Replies.{handed-is}
-use Rattle.theorems.proofs.Judged.{Judged, judged}
-use Rattle.theorems.proofs.Tiles.{Sections, sections}
-use Rattle.theorems.proofs.Fields.{here, one}
+use Rattle.laws.proofs.Judged.{Judged, judged}
+use Rattle.laws.proofs.Sections.{Sections, sections}
+use Rattle.laws.proofs.Fields.{here, one}
 use Rattle.theorems.proofs.Laid.{ahead, ending, body}
 use Rattle.theorems.proofs.GridSection.{GridClean, found-here}
-use Rattle.theorems.proofs.BitmapSection.{map-says, map-here}
+use Rattle.laws.proofs.Bounded.{map-says, kind}
+use Rattle.theorems.proofs.BitmapSection.{map-here}
 use Rattle.theorems.proofs.DataSection.{data-here}
 use Rattle.theorems.proofs.ReadBack.{bodyFor, message-laid}
 use Rattle.theorems.proofs.Reoffered as read
@@ -96,7 +97,7 @@ module _ (s : List ℕ) (lent : Lent) (below : Below 256 s) (t : Taken s lent) (
   bms-here : bmsOf (bitmapIn s) (markOf (w .marks)) (pointsIn s) ++ drop (M .start + M .len) s ≡ drop (M .start) s
   unfolding bitmapIn
   bms-here =
-      map-here (bitmapIn s) (hasBitmap s pdsStart) s lent M (pointsIn s) (markOf (w .marks)) below (omega (arith, at .at-bds, at .end)) (read.kind s lent t) (at .bms)
+      map-here (bitmapIn s) (hasBitmap s pdsStart) s lent M (pointsIn s) (markOf (w .marks)) below (omega (arith, at .at-bds, at .end)) (kind s) (at .bms)
       (map-says s (hasBitmap s pdsStart) (M .start) .1) (j .bitmap) (c .bitmap) (read.marks-bits s lent t) (read.by-map s lent t)
 
   gds-here : gdsFor (gridIn s) ++ drop (G .start + G .len) s ≡ drop (G .start) s

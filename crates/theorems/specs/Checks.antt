@@ -7,51 +7,19 @@ use mathlib.Core.List.{List}
 use lib.Dec.{T}
 use lib.IntN.{ℤ, pos, natAbs, _+ℤ_, _-ℤ_}
 use lib.ListN.{length}
-use Rattle.rules.specs.declared.{Scale.Scale, Form.Form}
-use Rattle.rules.specs.Bounds.{pointsMost, sourceMost, stepMost, flatSpread}
+use Rattle.rules.specs.declared.{Form.Form}
+use Rattle.rules.specs.Bounds.{sourceMost, stepMost, flatSpread}
 use Rattle.rules.specs.Numbers.{decimalAt}
 use Rattle.rules.specs.Table.{refusal, accepted, anyOf}
 use Rattle.rules.specs.Bitmap.{Lent, valueOf}
 use Rattle.rules.specs.Values.{packingFaults, bOf, sizeOf, unit, wholeOf}
-use Rattle.rules.specs.Reading.{pointsIn, presentIn, valuesIn, scaleIn, decimalIn}
+use Rattle.rules.specs.Reading.{valuesIn, scaleIn}
 use Rattle.rules.specs.Writing.{pdsFaults, writeRefusal}
 use Rattle.rules.specs.Checking.{Source, numberOf, presentOf, checkOf}
-use Rattle.rules.specs.Packing.{spellingOf, reference, above, stepped, exponent, packed, packRefusal, packOf, packedAfter}
-use Rattle.theorems.specs.Reads.{Taken}
+use Rattle.rules.specs.Packing.{spellingOf, reference, above, exponent, packed, packRefusal, packOf, packedAfter}
+use Rattle.laws.specs.Taken.{Taken}
+use Rattle.laws.specs.Sources.{AtPresent, SomePresent, WellFormed, Agrees, InRange, Fits}
 use Rattle.theorems.specs.Returns.{GridFits, NumberFits, handed}
-
--- what holds at every present point of a source, and that it holds at one
-abbrev pub AtPresent : Source → (ℕ → Type 0) → Type 0
-AtPresent f P = (i : ℕ) → i < length (f .numbers) → presentOf f i ≡ 1 → P i
-
-pub record SomePresent (f : Source) (P : ℕ → Type 0) : Type 0 where
-  pub at : ℕ
-  pub below : at < length (f .numbers)
-  pub here : presentOf f at ≡ 1
-  pub holds : P at
-
--- "the source is well formed": not what 18 refuses
-pub record WellFormed (f : Source) : Type 0 where
-  pub lists : length (f .numbers) ≡ length (f .marks)
-  pub some : 1 ≤ length (f .numbers)
-  pub most : length (f .numbers) ≤ pointsMost
-  pub marks : (i : ℕ) → i < length (f .numbers) → presentOf f i ≤ 1
-  pub bound : AtPresent f (λ i. natAbs (numberOf f i) ≤ sourceMost)
-
--- "decimal scale, point count and present points agree"
-pub record Agrees (s : List ℕ) (lent : Lent) (f : Source) : Type 0 where
-  pub points : length (f .numbers) ≡ pointsIn s
-  pub marks : (i : ℕ) → i < pointsIn s → presentIn s lent i ≡ presentOf f i
-  pub d : decimalIn s .value ≡ f .d
-
--- "the reference value and binary scale lie in our stated ranges": E is e, from 0 to 24, and R is whole, in size m of at most 8,388,607
-pub record InRange (c : Scale) : Type 0 where
-  pub e : ℕ
-  pub is : c .e .value ≡ pos e
-  pub small : e ≤ stepMost
-  pub m : ℕ
-  pub whole : sizeOf (c .r) ≡ m * unit
-  pub bound : m ≤ sourceMost
 
 -- "every present source number is within half a binary step of its unpacked value": 2 × |V − R − X × 2^E| ≤ 2^E
 abbrev pub Near : List ℕ → Lent → Source → ℕ → Type 0
@@ -105,10 +73,6 @@ pub record Spells (z : ℤ) (r : ℕ) : Type 0 where
 
 abbrev pub SpelledExactly : Type 0
 SpelledExactly = (z : ℤ) → natAbs z ≤ sourceMost → Spells z (spellingOf z)
-
--- with the step 2^e "all X are below 2^N"
-abbrev pub Fits : Source → ℕ → ℕ → Type 0
-Fits f bits e = AtPresent f (λ i. stepped e (above f i) < 2 ^ bits)
 
 -- "E is the least of 0 to 24 for which all X are below 2^N"; "No present point: .. E = 0"
 abbrev pub LeastStep : Type 0

@@ -12,24 +12,20 @@ use lib.Ieee.{binary64, ofBits}
 use lib.Ieee.Exact.{HasValue}
 use Rattle.bits.specs.Bits.{bitsIn, run, count}
 use Rattle.rules.specs.declared.{Header.Header, Bitmap.the-variants.Without, GridPoint.GridPoint, Spot.Spot, Charted.the-variants.On, Pointed.the-variants.At}
-use Rattle.rules.specs.Bounds.{pdsLeast, gdsLeast, bmsLeast, bdsLeast}
 use Rattle.rules.specs.Numbers.{joined, decimalAt}
 use Rattle.rules.specs.Table.{refusal, accepted}
-use Rattle.rules.specs.Places.{octetsOf, noPart, after, pdsStart, hasGrid, hasBitmap, placesOf, sectionsOf}
+use Rattle.rules.specs.Places.{octetsOf, noPart, pdsStart, hasGrid, hasBitmap, placesOf, sectionsOf}
 use Rattle.rules.specs.Time.{momentAt}
 use Rattle.rules.specs.Grid.{theGrid}
 use Rattle.rules.specs.Chart.{west, north, byColumn, spotOf, pointOf, charted, pointed}
 use Rattle.rules.specs.Bitmap.{Lent, markOf, valueOf}
 use Rattle.rules.specs.Points.{numbered, absent}
 use Rattle.rules.specs.Values.{sOf, bOf, sizeOf, unit}
-use Rattle.rules.specs.Reading.{ownRefusal, bitmapIn, inForceIn, pointsIn, presentIn, presentCount, packingIn, headerOf, readRefusal, readOf, valuesAfter, marksAfter, sectionOf, numberingOf}
+use Rattle.rules.specs.Reading.{ownRefusal, bitmapIn, pointsIn, presentIn, presentCount, packingIn, headerOf, readRefusal, readOf, valuesAfter, marksAfter, sectionOf, numberingOf}
 use Rattle.rules.specs.Writing.{Parts, gridFor, pointsFor}
 use Rattle.rules.specs.RoundTrip.{partsIn}
 use Rattle.rules.specs.Display.{shownReference, shownStep}
-
--- the message is taken: its own refusals 1 to 12 give 0
-abbrev pub Taken : List ℕ → Lent → Type 0
-Taken s lent = T (accepted (ownRefusal s lent))
+use Rattle.laws.specs.Taken.{Taken}
 
 -- "sections that tile the message"
 abbrev pub SectionsTile : Type 0
@@ -48,21 +44,6 @@ SectionsHanded = (s : List ℕ) (lent : Lent) → Taken s lent → HandedBack s 
 -- "or a message that 1 to 12 refuse"
 abbrev pub RefusedHasNone : Type 0
 RefusedHasNone = (s : List ℕ) (lent : Lent) (k : ℕ) → accepted (ownRefusal s lent) ≡ false → sectionOf s lent k ≡ noPart
-
--- every fixed field of a taken message lies in its section: no answer leans on the 0 past the end, nor on a difference cut at 0
-pub record Inside (s : List ℕ) : Type 0 where
-  pub pds : pdsLeast ≤ placesOf s .pds .len
-  pub gds : T (hasGrid s pdsStart) → gdsLeast ≤ placesOf s .gds .len
-  pub bms : T (hasBitmap s pdsStart) → bmsLeast ≤ placesOf s .bms .len
-  pub bds : bdsLeast ≤ placesOf s .bds .len
-  pub end : after (placesOf s .bds) + 4 ≡ length s
-
-abbrev pub ReadsInside : Type 0
-ReadsInside = (s : List ℕ) (lent : Lent) → Taken s lent → Inside s
-
--- and so do the octets that hold the bitmap in force, in the slice they are part of
-abbrev pub BitmapInside : Type 0
-BitmapInside = (s : List ℕ) (lent : Lent) → Taken s lent → after (inForceIn s .part) ≤ length (cond (inForceIn s .stored) (lent .octets) s)
 
 -- of a point, where reading left these lists: "A present grid point's data number is the count of ones before it in the bitmap", its value stands among the data by that number,
 -- inside the data section; "An absent point has none", and "0 and 0 at absent points"

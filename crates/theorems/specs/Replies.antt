@@ -16,11 +16,7 @@ use Rattle.rules.specs.Display.{displayTable, displayOf, shownReference, shownS
 use Rattle.rules.specs.Writing.{Parts, message, writeTable, writeRefusal, writeOf, lengthOf}
 use Rattle.rules.specs.Checking.{Source, checkTable}
 use Rattle.rules.specs.Packing.{packed, packTable, packRefusal, packOf}
-
--- no row of a table applies
-abbrev pub Clear : List Row → Type 0
-Clear [] = Unit
-Clear (given r test ∷ rows) = (test ≡ false) × Clear rows
+use Rattle.laws.specs.Tables.{Clear}
 
 -- r is the reply of the first row that applies
 pub record Stops (rows : List Row) (r : Refusal) : Type 0 where

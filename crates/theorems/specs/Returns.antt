@@ -15,7 +15,8 @@ use Rattle.rules.specs.Bitmap.{Lent}
 use Rattle.rules.specs.Reading.{pointsIn, bitmapIn, presentCount, packingIn}
 use Rattle.rules.specs.Writing.{Parts, pointsFor, message, writeRefusal, writeOf, outputAfter}
 use Rattle.rules.specs.RoundTrip.{partsIn, stains, canonical}
-use Rattle.theorems.specs.Reads.{Taken, Tells}
+use Rattle.laws.specs.Taken.{Taken}
+use Rattle.theorems.specs.Reads.{Tells}
 
 -- what the types of the code's parameters hold by themselves
 abbrev pub Below : ℕ → List ℕ → Type 0

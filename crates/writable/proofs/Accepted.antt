@@ -20,10 +20,10 @@ use Rattle.rules.specs.Bitmap.{Lent, bitmapGiven, markOf, valueOf}
 use Rattle.rules.specs.Values.{packingFaults}
 use Rattle.rules.specs.Writing.{pdsFaults, listsFit, pointBad}
 use Rattle.bits.proofs.Tests.{both, or-right}
-use Rattle.theorems.proofs.Whole.{within}
+use Rattle.laws.proofs.Whole.{within}
 use Rattle.reply.proofs.Stages.{passed}
-use Rattle.theorems.proofs.Rows.{none-of}
-use Rattle.theorems.proofs.Offered.{flags-two, point-ok as pointKept}
+use Rattle.laws.proofs.Rows.{none-of}
+use Rattle.laws.proofs.Points.{flags-two, point-ok as pointKept}
 use Rattle.writable.specs.Rows.{frontRows, scaleFaults, middleRows, earlyRows, pointsBad, listFaults, ownRows}
 use Rattle.writable.specs.Listed.{Listed}
 

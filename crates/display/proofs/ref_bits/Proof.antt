@@ -5,7 +5,7 @@ use native.Mathlib.Omega.{arith}
 use borrow.Author.Needs.{needs}
 use lib.Count.{leadingZeros}
 use Rattle.rules.specs.Display.{refBits}
-use Rattle.theorems.proofs.Lead.{Lead, lead, some}
+use Rattle.laws.proofs.Lead.{Lead, lead, some}
 use Rattle.display.proofs.ref_bits.Statement.{statement}
 use Rattle.display.proofs.ref_bits.Tie as tie
 

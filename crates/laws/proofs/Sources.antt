@@ -10,10 +10,10 @@ use Rattle.rules.specs.Bounds.{pointsMost, sourceMost}
 use Rattle.rules.specs.Numbers.{beyond}
 use Rattle.rules.specs.Table.{anyOf}
 use Rattle.rules.specs.Checking.{Source, numberOf, presentOf, anyPresent, sourceFaults}
-use Rattle.theorems.specs.Checks.{AtPresent, SomePresent, WellFormed}
+use Rattle.laws.specs.Sources.{AtPresent, SomePresent, WellFormed}
 use Rattle.bits.proofs.Tests.{both}
-use Rattle.theorems.proofs.Rows.{none-of, any-none, and-false, gated, is-eq, not-eq, inside, outside-no}
-use Rattle.theorems.proofs.Whole.{within, beyond-no}
+use Rattle.laws.proofs.Rows.{none-of, any-none, and-false, gated, is-eq, not-eq, inside, outside-no}
+use Rattle.laws.proofs.Whole.{within, beyond-no}
 
 module _ (f : Source) (test : ℕ → Bool) where
   abbrev here : ℕ → Bool

@@ -12,9 +12,9 @@ use Rattle.rules.specs.Grid.{gridMissing, theGrid, gdsFaults, gridFaults}
 use Rattle.rules.specs.Bitmap.{Lent, bitmapFaults}
 use Rattle.rules.specs.Values.{packingFaults, lengthBad}
 use Rattle.rules.specs.Reading.{gridOf, pointsIn, bitmapIn, presentCount, packingIn, layoutRows, gridRows, dataRows, parsedOf, earlierRows, messageTable, ownRefusal, readTable, readRefusal}
-use Rattle.theorems.specs.Replies.{Clear}
-use Rattle.theorems.specs.Reads.{Taken}
-use Rattle.theorems.proofs.Rows.{clear, clear-parts, accepts, taken-by}
+use Rattle.laws.specs.Tables.{Clear}
+use Rattle.laws.specs.Taken.{Taken}
+use Rattle.laws.proofs.Rows.{clear, clear-parts, accepts, taken-by}
 
 pub record Judged (s : List ℕ) (lent : Lent) : Type 0 where
   pub size : sizeBad s ≡ false

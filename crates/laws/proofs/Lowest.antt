@@ -17,8 +17,8 @@ use Rattle.bits.proofs.Ones.{count-zero}
 use Rattle.rules.specs.Bounds.{sourceMost}
 use Rattle.rules.specs.Checking.{Source, numberOf, presentOf}
 use Rattle.rules.specs.Packing.{lowest, reference, above}
-use Rattle.theorems.specs.Checks.{AtPresent, SomePresent, WellFormed, LeastReference}
-use Rattle.theorems.proofs.Whole.{not-below, ltZ-irrefl, ltZ-antisym, not-over, sub-le, gap}
+use Rattle.laws.specs.Sources.{AtPresent, SomePresent, WellFormed}
+use Rattle.laws.proofs.Whole.{not-below, ltZ-irrefl, ltZ-antisym, not-over, sub-le, gap}
 
 -- z is the number at a present one of the first n points
 record OneOf (present : ℕ → ℕ) (v : ℕ → ℤ) (n : ℕ) (z : ℤ) : Type 0 where
@@ -79,7 +79,7 @@ module _ (f : Source) where
   abbrev lows : ℤ
   lows = lowest (presentOf f) (numberOf f) (length (f .numbers))
 
-  reference-none : ((i : ℕ) → i < length (f .numbers) → presentOf f i ≡ 0) → reference f ≡ pos 0
+  pub reference-none : ((i : ℕ) → i < length (f .numbers) → presentOf f i ≡ 0) → reference f ≡ pos 0
   unfolding reference
   reference-none h = ap (λ (k : ℕ). cond (eqb k 0) (pos 0) lows) (count-zero (presentOf f) 0 (length (f .numbers)) (λ i l. h (0 + i) (omega arith)))
 
@@ -106,7 +106,7 @@ module _ (f : Source) where
     unfolding above
     above-most i l e = omega (arith, sub-le (numberOf f i) (reference f), ok .bound i l e, reference-most)
 
-    one-is : SomePresent f (λ i. Unit {0}) → SomePresent f (λ i. numberOf f i ≡ reference f)
+    pub one-is : SomePresent f (λ i. Unit {0}) → SomePresent f (λ i. numberOf f i ≡ reference f)
     one-is o =
         let t = lowest-one (presentOf f) (numberOf f) (length (f .numbers)) (o .at) (o .below) (o .here) (ok .bound (o .at) (o .below) (o .here)) in
         record { at = t .at; below = t .below; here = t .here; holds = t .is ∙ sym (reference-is (o .at) (o .below) (o .here)) }
@@ -117,6 +117,3 @@ module _ (f : Source) where
       let v = numberOf f i in
       let r = reference f in
       sym (-ℤ-+ℤ-cancel v r) ∙ ap (λ (z : ℤ). z +ℤ r) (gap v r (reference-under i l e)) ∙ +ℤ-comm (pos (natAbs (v -ℤ r))) r
-
-pub least-reference : LeastReference
-least-reference f ok = record { over = over f; one = one-is f ok; none = reference-none f }

@@ -9,7 +9,7 @@ use lib.Dec.{T, ltb, eqb, eqb→eq, ltb→lt}
 use Rattle.rules.specs.declared.{Refusal.Refusal}
 use Rattle.rules.specs.Numbers.{outside}
 use Rattle.rules.specs.Table.{Row, given, refusal, accepted, firstOr, first, orAll, anyOf}
-use Rattle.theorems.specs.Replies.{Clear}
+use Rattle.laws.specs.Tables.{Clear}
 use Rattle.bits.proofs.Tests.{or-false, or-none}
 
 -- the rows of a table all have a number that is not acceptance's
