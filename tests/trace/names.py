@@ -172,7 +172,7 @@ def lines(body):
 
 def quoted(body):
     """Each line of a theorem that is quoted stands in the theorems' statements."""
-    stated = {s.strip() for s in text("crates", "theorems", "specs").splitlines()}
+    stated = {s.strip() for crate in ("theorems", "laws") for s in text("crates", crate, "specs").splitlines()}
     for block in re.findall(r"(?ms)^```text\n(.*?)^```", body):
         for line in block.splitlines():
             if line.strip():

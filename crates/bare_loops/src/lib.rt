@@ -2,7 +2,7 @@
 ghost use mathlib.Core.Path.{_≡_};
 ghost use lib.ListN.{length};
 ghost use Rattle.runs.specs.Take.{unpackFits, unpacked};
-ghost use Rattle.puts.specs.Pack.{packFits, packed};
+ghost use Rattle.packs.specs.Pack.{packFits, packed};
 
 // As `runs::unpack`.
 #[no_mangle]
@@ -13,11 +13,11 @@ pub extern "C" fn bare_unpack(s: &[u8], at: u32, n: u8, out: &mut [u32], m: u32)
     runs::unpack(s, at, n, out, m)
 }
 
-// As `puts::pack`.
+// As `packs::pack`.
 #[no_mangle]
 pub extern "C" fn bare_pack(vs: &[u32], n: u8, out: &mut [u8]) -> bool
     ensures { λ r. ⌜ r ≡ packFits n (now (vs .entry)) (length (now (out .entry))) ⌝ }
     ensures { λ _. ⌜ now (out .exit) ≡ packed n (now (vs .entry)) (now (out .entry)) ⌝ }
 {
-    puts::pack(vs, n, out)
+    packs::pack(vs, n, out)
 }

@@ -1,4 +1,4 @@
-// The functions of `runs` and `puts` beside a computation that takes one bit at a time, at every width from 0 to 24 and every bit
+// The functions of `runs` and `packs` beside a computation that takes one bit at a time, at every width from 0 to 24 and every bit
 // offset from 0 to 7. Each check answers how many things differ.
 ghost use Prim.Native.Nat.{_+_, _*_, _<_, _≤_};
 ghost use lib.ListN.{length};
@@ -103,7 +103,7 @@ fn pack_differs(vs: &[u32], n: u8, out: &mut [u8]) -> u32
     let ends = vs.len() * n as usize;
     let pads = (ends + 7) / 8 * 8;
     let bits = out.len() * 8;
-    if puts::pack(vs, n, out) {
+    if packs::pack(vs, n, out) {
         return values_differ(out, 0, n, vs)
             + bits_differ(out, &zeros, ends, pads)
             + bits_differ(out, &ones, pads, bits);
@@ -132,7 +132,7 @@ fn put_differs(s: &[u8], n: u8, from: u32, v: u32, out: &mut [u8]) -> u32
     let ends = place + n as usize;
     let pads = (ends + 7) / 8 * 8;
     let bits = out.len() * 8;
-    if puts::put_bits(out, from, n, v) {
+    if packs::put_bits(out, from, n, v) {
         return bits_differ(out, s, 0, place)
             + differs(out, place, n, v)
             + bits_differ(out, &zeros, ends, pads)

@@ -1,24 +1,15 @@
-// The chart: the row and column of a grid point and back, over Ni, Nj and the scanning flags alone. All total; a number that is no
-// grid point's and a place outside the chart have a case of their own.
+// The chart: the row and column of a grid point and back, and how many points and rows there are, over the shape of a grid alone. All total;
+// a number that is no grid point's and a place outside the chart have a case of their own.
 ghost use mathlib.Core.Path.{_≡_};
-ghost use mathlib.Core.Bool.{cond};
 ghost use Prim.Native.Nat.{_<_};
-ghost use Rattle.rules.specs.Chart.{turned as theTurned, spotOf, pointOf, charted, pointed};
-use reply::less;
+ghost use Rattle.rules.specs.Chart.{turned as theTurned, spotOf, pointOf, pointsOn, rowsOn, rowLong, columnsOn, charted, pointed};
+use choices::less;
+use choices::pick;
 use rules::Charted;
 use rules::GridPoint;
 use rules::Pointed;
+use rules::Shape;
 use rules::Spot;
-
-// One of two numbers.
-fn pick(test: bool, a: u32, b: u32) -> u32
-    ensures { λ r. ⌜ r ≡ cond test a b ⌝ }
-{
-    if test {
-        return a;
-    }
-    b
-}
 
 // Count i of n, from the other end where the direction is turned.
 fn turned(turn: bool, n: u32, i: u32) -> u32
@@ -55,22 +46,50 @@ fn point(ni: u16, nj: u16, scan: u8, c: Spot) -> u32
     pick(32 <= scan % 64, i * high + j, j * wide + i)
 }
 
-// Where a grid point lies on the chart.
-pub fn spot_of(ni: u16, nj: u16, scan: u8, k: GridPoint) -> Charted
-    ensures { λ r. ⌜ r ≡ charted ni nj scan k ⌝ }
+// How many points a shape has.
+pub fn points_on(g: Shape) -> u32
+    ensures { λ r. ⌜ r ≡ pointsOn g ⌝ }
 {
-    if k.0 < ni as u32 * nj as u32 {
-        return Charted::On(spot(ni as u32, nj as u32, scan, k.0));
+    g.ni as u32 * g.nj as u32
+}
+
+// How many rows its chart has.
+pub fn rows_on(g: Shape) -> u32
+    ensures { λ r. ⌜ r ≡ rowsOn g ⌝ }
+{
+    g.nj as u32
+}
+
+// How many points a row of its chart has.
+pub fn row_long(shape: Shape, row: u32) -> u32
+    ensures { λ n. ⌜ n ≡ rowLong shape row ⌝ }
+{
+    shape.ni as u32
+}
+
+// How many columns are listed.
+pub fn columns_on(g: Shape) -> u32
+    ensures { λ r. ⌜ r ≡ columnsOn g ⌝ }
+{
+    row_long(g, 0)
+}
+
+// Where a grid point lies on the chart.
+pub fn spot_of(g: Shape, k: GridPoint) -> Charted
+    ensures { λ r. ⌜ r ≡ charted g k ⌝ }
+{
+    if k.0 < points_on(g) {
+        return Charted::On(spot(g.ni as u32, g.nj as u32, g.scan, k.0));
     }
     Charted::Off
 }
 
 // The grid point that lies at a place of the chart.
-pub fn point_at(ni: u16, nj: u16, scan: u8, c: Spot) -> Pointed
-    ensures { λ r. ⌜ r ≡ pointed ni nj scan c ⌝ }
+pub fn point_at(g: Shape, c: Spot) -> Pointed
+    ensures { λ r. ⌜ r ≡ pointed g c ⌝ }
 {
-    if (c.row < nj as u32) & (c.column < ni as u32) {
-        return Pointed::At(GridPoint(point(ni, nj, scan, c)));
+    if (c.row < rows_on(g)) & (c.column < row_long(g, c.row)) {
+        return Pointed::At(GridPoint(point(g.ni, g.nj, g.scan, c)));
     }
     Pointed::Off
 }

@@ -14,6 +14,7 @@ use mir.Syntax.{w32, w64}
 use mir.Val.{Fits, SFits, toZ, ofZ}
 use mir.Facts.{toZ-ofZ, sfits-widen}
 use Rattle.bits.proofs.Runs.{lt-or-ge, one-shl}
+use Rattle.rules.specs.Bounds.{stepMost}
 use Rattle.rules.specs.Checking.{farFrom}
 
 -- lifted by 2^31
@@ -56,8 +57,8 @@ module _ (v : ℤ) (f : SFits w32 v) where
   back = ap (λ (x : ℤ). x +ℤ pos 2147483648) (toZ-ofZ f)
 
 -- 2^E
-pub step-is : (e : ℕ) → e ≤ 24 → ((1 * 2 ^ e) % 2 ^ 64 ≡ 2 ^ e) × ((1 * 2 ^ e) % 2 ^ 64 ≤ 16777216)
-step-is e h = let p = one-shl 64 e (omega arith) in rw p (refl, pow-le-pow-right (lit< tt) {i = e} {j = 24} h)
+pub step-is : (e : ℕ) → e ≤ stepMost → ((1 * 2 ^ e) % 2 ^ 64 ≡ 2 ^ e) × ((1 * 2 ^ e) % 2 ^ 64 ≤ 16777216)
+step-is e h = let p = one-shl 64 e (omega arith) in rw p (refl, pow-le-pow-right (lit< tt) {i = e} {j = stepMost} h)
 
 -- X × 2^E
 pub product : (x p : ℕ) → x < 4294967296 → p ≤ 16777216 → x * p ≤ 72057594037927936

@@ -1,6 +1,6 @@
 pub mod Distance
 pub mod Agreement
+pub mod Far
 pub mod Present
 pub mod Rows
 pub mod Stages
-pub mod Plain

@@ -17,7 +17,7 @@ use Rattle.bits.specs.Bits.{bitsIn, run}
 use Rattle.bits.specs.Tables.{anyBelow}
 use Rattle.bits.proofs.Runs.{run-lt, bitsIn-bits}
 use Rattle.rules.specs.declared.{Places.Places, Bitmap.Bitmap, Packing.Packing, Scale.Scale, Signed.Signed, Header.Header}
-use Rattle.rules.specs.Bounds.{bitsMost, stepMost}
+use Rattle.rules.specs.Bounds.{bdsHead, bitsMost, stepMost}
 use Rattle.rules.specs.Table.{anyOf, orAll}
 use Rattle.rules.specs.Numbers.{signed}
 use Rattle.rules.specs.Places.{pdsStart, hasGrid, hasBitmap, placesOf, sectionAt, after}
@@ -27,6 +27,7 @@ use Rattle.rules.specs.Reading.{headerOf, foundIn, foundBy, pointsIn, bitmapIn,
 use Rattle.rules.specs.Checking.{Source, sourceFaults, decimalDiffers, sourceDiffers, scaleFaults, pointOut}
 use Rattle.laws.proofs.Rows.{none-of}
 use Rattle.laws.proofs.Judged.{judged}
+use Rattle.laws.proofs.Data.{dataPlace}
 use Rattle.laws.proofs.Sources.{well-formed}
 use Rattle.laws.proofs.Agreed.{agrees, in-range}
 use Rattle.message.proofs.Said as S
@@ -140,13 +141,13 @@ module _ (s : List ℕ) (lent : Lent) (h : Header) (e : h ≡ headerOf s lent) (
 
   -- 17, once 18 and 15 have passed
   pub out-is : anyOf (sourceFaults source) ≡ false → anyOf (sourceDiffers s lent source) ≡ false → (r : Bool)
-      → r ≡ anyBelow (out s numbers marks ((h .places .bds .start + 11) * 8) (h .packing .bits) (wholeOf (h .scale .r)) (natAbs (h .scale .e .value))) (length numbers)
+      → r ≡ anyBelow (out s numbers marks ((h .places .bds .start + bdsHead) * 8) (h .packing .bits) (wholeOf (h .scale .r)) (natAbs (h .scale .e .value))) (length numbers)
       → r ≡ pointOut s lent source
   out-is w a r q =
       let g = agrees s lent source a in
       q
-      ∙ ap₂ (λ (x : Places) (y : Packing). anyBelow (out s numbers marks ((x .bds .start + 11) * 8) (y .bits) (wholeOf (h .scale .r)) (natAbs (h .scale .e .value))) (length numbers))
+      ∙ ap₂ (λ (x : Places) (y : Packing). anyBelow (out s numbers marks ((x .bds .start + bdsHead) * 8) (y .bits) (wholeOf (h .scale .r)) (natAbs (h .scale .e .value))) (length numbers))
       (S.places-of s lent h e z) (S.packing-of s lent h e z)
-      ∙ ap (λ (x : Scale). anyBelow (out s numbers marks ((placesOf s .bds .start + 11) * 8) (packingIn s .bits) (wholeOf (x .r)) (natAbs (x .e .value))) (length numbers))
+      ∙ ap (λ (x : Scale). anyBelow (out s numbers marks (dataPlace s lent) (packingIn s .bits) (wholeOf (x .r)) (natAbs (x .e .value))) (length numbers))
       (S.scale-of s lent h e z)
       ∙ point-out s lent source (g .points) (g .marks) (λ i l. well-formed source w .marks i (subst (λ (n : ℕ). i < n) (sym (g .points)) l))

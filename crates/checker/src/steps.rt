@@ -20,7 +20,7 @@ fn lifted(v: i32) -> u64
 // 2^E.
 fn power(e: u32) -> u64
     requires { ⌜ e ≤ stepMost ⌝ }
-    ensures { λ r. ⌜ (r ≡ 2 ^ e) × (r ≤ 2 ^ 24) ⌝ }
+    ensures { λ r. ⌜ (r ≡ 2 ^ e) × (r ≤ 2 ^ stepMost) ⌝ }
 {
     1 << e
 }

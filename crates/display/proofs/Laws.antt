@@ -15,7 +15,7 @@ use Rattle.rules.specs.Display.{shownReference, shownStep, displayTable, displa
 use Rattle.message.proofs.Stages.{one-more}
 use Rattle.message.proofs.Said as S
 
-abbrev blank : Refusal → Display
+abbrev pub blank : Refusal → Display
 blank r = record { refusal = r; reference = ofBits binary64 0; step = ofBits binary64 0 }
 
 abbrev full : Refusal → Scale → Display

@@ -8,6 +8,7 @@ ghost use Rattle.rules.specs.Bounds.{shownLeast, shownMost};
 ghost use Rattle.rules.specs.Table.{refusal as theRefusal};
 ghost use Rattle.rules.specs.Display.{refBits, stepBits, shownReference, shownStep, displayOf};
 use message::header;
+use reply::refusal;
 use rules::Display;
 use rules::Refusal;
 use rules::Scale;
@@ -67,7 +68,7 @@ fn shown(c: Scale) -> Display
     );
     let step = step_bits(c.e);
     Display {
-        refusal: Refusal { number: 0 },
+        refusal: refusal(0),
         reference: f64::from_bits(reference),
         step: f64::from_bits(step),
     }
@@ -82,7 +83,7 @@ pub fn display(s: &[u8], number: u16, store: &[u8]) -> Display
         return refused(h.refusal);
     }
     if beyond(h.scale.e) {
-        return refused(Refusal { number: 16 });
+        return refused(refusal(16));
     }
     shown(h.scale)
 }

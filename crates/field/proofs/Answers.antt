@@ -11,18 +11,21 @@ use Rattle.rules.specs.declared.{Refusal.Refusal, Places.Places, Packing.Packin
 use Rattle.bits.specs.Bits.{bitsIn, count, runs}
 use Rattle.bits.specs.Tables.{tab}
 use Rattle.bits.proofs.Fill.{length-tab}
-use Rattle.rules.specs.Bounds.{messageMost}
+use Rattle.rules.specs.Bounds.{messageLeast, messageMost, bitsMost, bdsHead}
 use Rattle.rules.specs.Table.{refusal, accepted, filled}
 use Rattle.rules.specs.Places.{after, sizeBad}
-use Rattle.rules.specs.Bitmap.{Lent, inForce, presentBy, bitmapOctets}
+use Rattle.rules.specs.Bitmap.{Lent, inForce, presentBy, bitmapOctets, marksLong}
 use Rattle.rules.specs.Points.{scattered}
 use Rattle.rules.specs.Values.{packingFaults, valuesAt}
 use Rattle.rules.specs.Reading.{parsedOf, foundBy, foundIn, refusedBy, ownRefusal, answerBy, headerOf, inForceIn, pointsIn, presentIn, presentCount, packingIn, valuesIn, marksIn, readTable, readRefusal, readOf, valuesAfter, marksAfter}
 use Rattle.bits.proofs.Tests.{or-false}
 use Rattle.laws.proofs.Rows.{none-of, inside}
-use Rattle.laws.proofs.Judged.{judged}
+use Rattle.laws.proofs.Judged.{own-zero, judged}
+use Rattle.laws.proofs.Data.{data-runs}
 use Rattle.laws.proofs.Sections.{sections}
 use Rattle.laws.proofs.Bounded.{bitmap-inside}
+use Rattle.marks.specs.Marks.{markedBy}
+use Rattle.marks.proofs.Bitmaps.{marked-fits}
 use Rattle.message.proofs.Stages.{one-more}
 use Rattle.message.proofs.Said as S
 
@@ -32,7 +35,7 @@ module _ (s : List ℕ) (lent : Lent) (v w : List ℕ) where
   Answered h x y = (h ≡ readOf s lent v w) × ((x ≡ valuesAfter s lent v w) × (y ≡ marksAfter s lent v w))
 
   abbrev short : Bool
-  short = ltb (length v) (pointsIn s) || ltb (length w) (pointsIn s)
+  short = ltb (length v) (pointsIn s) || ltb (length w) (marksLong (pointsIn s))
 
   refusal-by : (t : Bool) → t ≡ short → readRefusal s lent v w ≡ cond (accepted (ownRefusal s lent)) (cond t (refusal 14) (refusal 0)) (ownRefusal s lent)
   unfolding readRefusal readTable
@@ -61,24 +64,25 @@ module _ (s : List ℕ) (lent : Lent) (v w : List ℕ) where
       points : h .points ≡ pointsIn s
       points = S.points-of s lent h e z
 
-      abbrev tested : Bool
-      tested = ltb (length v) (h .points) || ltb (length w) (h .points)
+      -- the test, with the length of n marks as it was asked for
+      abbrev tested : ℕ → Bool
+      tested k = ltb (length v) (h .points) || ltb (length w) k
 
-      tested-is : tested ≡ short
-      tested-is = ap (λ (x : ℕ). ltb (length v) x || ltb (length w) x) points
+      tested-is : (k : ℕ) → k ≡ marksLong (h .points) → tested k ≡ short
+      tested-is k l = ap tested l ∙ ap (λ (x : ℕ). ltb (length v) x || ltb (length w) (marksLong x)) points
 
-      refusal-is : (t : Bool) → tested ≡ t → readRefusal s lent v w ≡ cond t (refusal 14) (refusal 0)
-      refusal-is t q = refusal-by t (sym q ∙ tested-is) ∙ rw (S.taken s lent h e z)
+      refusal-is : (k : ℕ) → k ≡ marksLong (h .points) → (t : Bool) → tested k ≡ t → readRefusal s lent v w ≡ cond t (refusal 14) (refusal 0)
+      refusal-is k l t q = refusal-by t (sym q ∙ tested-is k l) ∙ rw (S.taken s lent h e z)
 
-      pub too-short : tested ≡ true → (r : Header) → r ≡ refusedBy (refusal 14) → Answered r v w
-      too-short q r d = let a = unchanged (refusal 14) (refusal-is true q) refl in (d ∙ a .0, a .1)
+      pub too-short : (k : ℕ) → k ≡ marksLong (h .points) → tested k ≡ true → (f : Refusal) → f ≡ refusal 14 → (r : Header) → r ≡ refusedBy f → Answered r v w
+      too-short k l q f g r d = let a = unchanged (refusal 14) (refusal-is k l true q) refl in (d ∙ ap refusedBy g ∙ a .0, a .1)
 
       -- what filling asks
-      pub narrow : h .packing .bits ≤ 24
+      pub narrow : h .packing .bits ≤ bitsMost
       unfolding packingFaults
       narrow =
-          subst (λ (x : Packing). x .bits ≤ 24) (sym (S.packing-of s lent h e z))
-          (ltb-false 24 (packingIn s .bits) (none-of (packingFaults (packingIn s)) (judged s lent took .packing) .1 .0))
+          subst (λ (x : Packing). x .bits ≤ bitsMost) (sym (S.packing-of s lent h e z))
+          (ltb-false bitsMost (packingIn s .bits) (none-of (packingFaults (packingIn s)) (judged s lent took .packing) .1 .0))
 
       pub counted : h .present ≡ count (presentBy (h .bitmap) (bitmapOctets s (lent .octets) (inForce (h .bitmap) (h .places .bms) (h .points)))) 0 (h .points)
       unfolding presentCount presentIn inForceIn foundIn foundBy parsedOf
@@ -92,46 +96,49 @@ module _ (s : List ℕ) (lent : Lent) (v w : List ℕ) where
           subst (λ (q : Header). after (inForce (q .bitmap) (q .places .bms) (q .points) .part) ≤ length (cond (inForce (q .bitmap) (q .places .bms) (q .points) .stored) (lent .octets) s))
           (sym (S.said s lent h e z)) (bitmap-inside s lent took)
 
-      pub room : tested ≡ false → (h .points ≤ length v) × (h .points ≤ length w)
-      room q = let o = or-false (ltb (length v) (h .points)) (ltb (length w) (h .points)) q in (ltb-false _ _ (o .0), ltb-false _ _ (o .1))
+      pub room : (k : ℕ) → k ≡ marksLong (h .points) → tested k ≡ false → (h .points ≤ length v) × (marksLong (h .points) ≤ length w)
+      room k l q =
+          let o = or-false (ltb (length v) (h .points)) (ltb (length w) k) q in
+          (ltb-false _ _ (o .0), subst (λ (x : ℕ). x ≤ length w) l (ltb-false _ _ (o .1)))
 
       -- the data's place is no large number
-      pub early : h .places .bds .start ≤ 262144
+      pub early : h .places .bds .start ≤ messageMost
       unfolding sizeBad
       early =
           let a = sections s lent took .end in
-          let b = inside 8 messageMost (length s) (judged s lent took .size) .1 in
-          subst (λ (x : Places). x .bds .start ≤ 262144) (sym (S.places-of s lent h e z)) (omega arith)
+          let b = inside messageLeast messageMost (length s) (judged s lent took .size) .1 in
+          subst (λ (x : Places). x .bds .start ≤ messageMost) (sym (S.places-of s lent h e z)) (omega arith)
 
       own : ownRefusal s lent ≡ refusal 0
-      own = sym (S.own s lent h e) ∙ ap refusal z
+      own = own-zero s lent (S.taken s lent h e z)
 
       -- the lists by the header, and by the definitions
       abbrev by : Header → ℕ → ℕ
       by q = presentBy (q .bitmap) (bitmapOctets s (lent .octets) (inForce (q .bitmap) (q .places .bms) (q .points)))
 
       abbrev valuesBy : Header → List ℕ
-      valuesBy q = scattered (by q) (runs (bitsIn 8 s) ((q .places .bds .start + 11) * 8) (q .packing .bits) (q .present)) (q .points)
+      valuesBy q = scattered (by q) (runs (bitsIn 8 s) ((q .places .bds .start + bdsHead) * 8) (q .packing .bits) (q .present)) (q .points)
 
       values-are : valuesBy h ++ drop (h .points) v ≡ valuesIn s lent ++ drop (length (valuesIn s lent)) v
-      unfolding valuesIn presentIn inForceIn valuesAt foundIn foundBy parsedOf scattered
+      unfolding valuesIn presentIn inForceIn foundIn foundBy parsedOf scattered
       values-are =
           ap (λ (q : Header). valuesBy q ++ drop (q .points) v) (S.said s lent h e z)
+          ∙ ap (λ (xs : List ℕ). scattered (presentIn s lent) xs (pointsIn s) ++ drop (pointsIn s) v) (sym (data-runs s lent))
           ∙ ap (λ (k : ℕ). valuesIn s lent ++ drop k v) (sym (length-tab _ (pointsIn s)))
 
-      marks-are : tab (by h) (h .points) ++ drop (h .points) w ≡ marksIn s lent ++ drop (length (marksIn s lent)) w
+      marks-are : h .points ≤ length w → markedBy (by h) (h .points) w ≡ marksIn s lent ++ drop (length (marksIn s lent)) w
       unfolding marksIn presentIn inForceIn foundIn foundBy parsedOf
-      marks-are =
-          ap (λ (q : Header). tab (by q) (q .points) ++ drop (q .points) w) (S.said s lent h e z)
+      marks-are l =
+          marked-fits (by h) (h .points) w l ∙ ap (λ (q : Header). tab (by q) (q .points) ++ drop (q .points) w) (S.said s lent h e z)
           ∙ ap (λ (k : ℕ). marksIn s lent ++ drop k w) (sym (length-tab _ (pointsIn s)))
 
-      pub done : tested ≡ false → (x y : List ℕ) → x ≡ valuesBy h ++ drop (h .points) v → y ≡ tab (by h) (h .points) ++ drop (h .points) w → Answered h x y
+      pub done : (k : ℕ) → k ≡ marksLong (h .points) → tested k ≡ false → (x y : List ℕ) → x ≡ valuesBy h ++ drop (h .points) v → y ≡ markedBy (by h) (h .points) w → Answered h x y
       unfolding headerOf readOf valuesAfter marksAfter filled
-      done q x y a b =
-          let r = refusal-is false q in (
+      done k l q x y a b =
+          let r = refusal-is k l false q in (
             e ∙ ap (λ (k : Refusal). answerBy k s lent) (own ∙ sym r),
             (
               a ∙ values-are ∙ sym (ap (λ (k : Refusal). filled k (valuesIn s lent) v) r),
-              b ∙ marks-are ∙ sym (ap (λ (k : Refusal). filled k (marksIn s lent) w) r),
+              b ∙ marks-are (room k l q .1) ∙ sym (ap (λ (k : Refusal). filled k (marksIn s lent) w) r),
             ),
           )

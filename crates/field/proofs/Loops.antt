@@ -2,7 +2,8 @@
 use mathlib.Core.Path.{_≡_, sym, ap, _∙_}
 use mathlib.Core.Bool.{true}
 use mathlib.Core.List.{List, _++_}
-use Prim.Native.Nat.{ℕ, _+_, _≤_}
+use Prim.Native.Nat.{ℕ, _+_, _*_, _≤_}
+use native.Mathlib.Nat.{zero-add}
 use native.Mathlib.Omega.{arith}
 use borrow.Author.Tests.{le-leb}
 use lib.Dec.{leb}
@@ -14,6 +15,8 @@ use Rattle.bits.proofs.Ones.{count-le}
 use Rattle.bits.proofs.Trip.{length-runs}
 use Rattle.runs.specs.Take.{unpackFits, unpacked}
 use Rattle.rules.specs.Points.{valueAt, scattered}
+use Rattle.marks.specs.Marks.{markedBy}
+use Rattle.marks.proofs.Bitmaps.{marked-ext}
 use Rattle.field.proofs.Spreading.{spread-front}
 
 pub unpack-done : (s v o : List ℕ) (at n m : ℕ) → n ≤ 24 → m ≤ length v → o ≡ unpacked s at n m v → o ≡ runs (bitsIn 8 s) at n m ++ drop m v
@@ -35,3 +38,6 @@ some-values s bm v o p at bits n m w e h u t =
     let l : length xs ≡ m = length-runs (bitsIn 8 s) at bits m in
     let d : o ≡ xs ++ drop (length xs) v = unpack-done s v o at bits m w (few bm n m (length v) e h) u ∙ ap (λ (x : ℕ). xs ++ drop x v) (sym l) in
     t ∙ ap (λ (x : List ℕ). tab (valueAt (bitsIn 8 bm) x) n ++ drop n x) d ∙ spread-front (bitsIn-bits 8 bm) xs v n (l ∙ e) h
+
+pub some-marks : (bm v o : List ℕ) (n : ℕ) → o ≡ markedBy (λ i. bitsIn 8 bm (0 * 8 + i)) n v → o ≡ markedBy (bitsIn 8 bm) n v
+some-marks bm v o n e = e ∙ marked-ext (λ i. bitsIn 8 bm (0 * 8 + i)) (bitsIn 8 bm) n v (λ i l. ap (bitsIn 8 bm) (zero-add i))

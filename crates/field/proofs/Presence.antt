@@ -11,7 +11,6 @@ use lib.ListN.{length, getD, take, drop, length-drop}
 use lib.Seq.{take-length}
 use Rattle.rules.specs.declared.{Part.Part, Bitmap.Bitmap, Bitmap.the-variants.Without, Bitmap.the-variants.Carried, Bitmap.the-variants.Stored}
 use Rattle.bits.specs.Bits.{bitsIn, count, runs, octetsFor}
-use Rattle.bits.specs.Tables.{tab}
 use Rattle.bits.proofs.Cut.{bits-take}
 use Rattle.bits.proofs.Fill.{tab-ext, tab-of}
 use Rattle.bits.proofs.Ones.{count-ext}
@@ -19,6 +18,8 @@ use Rattle.bits.proofs.Trip.{length-runs}
 use Rattle.rules.specs.Places.{after}
 use Rattle.rules.specs.Bitmap.{presentBy, bitmapOctets, inForce}
 use Rattle.rules.specs.Points.{valueAt, scattered}
+use Rattle.marks.specs.Marks.{markedBy}
+use Rattle.marks.proofs.Bitmaps.{marked-ext}
 
 -- two ways to say presence that agree below n
 module _ (f g : ℕ → ℕ) (n : ℕ) (same : (j : ℕ) → j < n → f j ≡ g j) where
@@ -32,8 +33,8 @@ module _ (f g : ℕ → ℕ) (n : ℕ) (same : (j : ℕ) → j < n → f j ≡ g
   pub count-by : (m : ℕ) → m ≡ count g 0 n → m ≡ count f 0 n
   count-by m e = e ∙ sym (count-same n (omega arith))
 
-  pub lists-by : (xs v w a b : List ℕ) → a ≡ scattered f xs n ++ v → b ≡ tab f n ++ w → (a ≡ scattered g xs n ++ v) × (b ≡ tab g n ++ w)
-  lists-by xs v w a b d e = (d ∙ ap (λ (x : List ℕ). x ++ v) (scattered-same xs), e ∙ ap (λ (x : List ℕ). x ++ w) (tab-ext f g n same))
+  pub lists-by : (xs v w a b : List ℕ) → a ≡ scattered f xs n ++ v → b ≡ markedBy f n w → (a ≡ scattered g xs n ++ v) × (b ≡ markedBy g n w)
+  lists-by xs v w a b d e = (d ∙ ap (λ (x : List ℕ). x ++ v) (scattered-same xs), e ∙ marked-ext f g n w same)
 
 abbrev always : ℕ → ℕ
 always i = 1
@@ -71,8 +72,8 @@ module _ (s store : List ℕ) (b : Bitmap) (p : Part) (n m : ℕ)
     every : m ≡ n
     every = count-by always (by b) n agrees m counted ∙ count-always n
 
-    pub without : (at bits : ℕ) (v w x y : List ℕ) → x ≡ runs (bitsIn 8 s) at bits n ++ v → y ≡ tab always n ++ w
-        → (x ≡ scattered (by b) (runs (bitsIn 8 s) at bits m) n ++ v) × (y ≡ tab (by b) n ++ w)
+    pub without : (at bits : ℕ) (v w x y : List ℕ) → x ≡ runs (bitsIn 8 s) at bits n ++ v → y ≡ markedBy always n w
+        → (x ≡ scattered (by b) (runs (bitsIn 8 s) at bits m) n ++ v) × (y ≡ markedBy (by b) n w)
     without at bits v w x y d c =
         let xs = runs (bitsIn 8 s) at bits m in
         let l : length xs ≡ n = length-runs (bitsIn 8 s) at bits m ∙ every in
@@ -103,8 +104,8 @@ module _ (s store : List ℕ) (b : Bitmap) (p : Part) (n m : ℕ)
       subst (λ (x : List ℕ). n ≤ length x * 8) (sym (rest-is s a)) (omega (arith, lies, length-drop a s)),
     )
 
-    pub carried : (xs v w x y : List ℕ) → x ≡ scattered (bitsIn 8 (rest s a)) xs n ++ v → y ≡ tab (bitsIn 8 (rest s a)) n ++ w
-        → (x ≡ scattered (by b) xs n ++ v) × (y ≡ tab (by b) n ++ w)
+    pub carried : (xs v w x y : List ℕ) → x ≡ scattered (bitsIn 8 (rest s a)) xs n ++ v → y ≡ markedBy (bitsIn 8 (rest s a)) n w
+        → (x ≡ scattered (by b) xs n ++ v) × (y ≡ markedBy (by b) n w)
     carried xs v w x y = lists-by (bitsIn 8 (rest s a)) (by b) n carried-agrees xs v w x y
 
   module _ (k : ℕ) (e : b ≡ Stored k) where
@@ -122,6 +123,6 @@ module _ (s store : List ℕ) (b : Bitmap) (p : Part) (n m : ℕ)
     pub stored-asks : (m ≡ count (bitsIn 8 store) 0 n) × (n ≤ length store * 8)
     stored-asks = (count-by (bitsIn 8 store) (by b) n stored-agrees m counted, omega (arith, holds))
 
-    pub stored : (xs v w x y : List ℕ) → x ≡ scattered (bitsIn 8 store) xs n ++ v → y ≡ tab (bitsIn 8 store) n ++ w
-        → (x ≡ scattered (by b) xs n ++ v) × (y ≡ tab (by b) n ++ w)
+    pub stored : (xs v w x y : List ℕ) → x ≡ scattered (bitsIn 8 store) xs n ++ v → y ≡ markedBy (bitsIn 8 store) n w
+        → (x ≡ scattered (by b) xs n ++ v) × (y ≡ markedBy (by b) n w)
     stored xs v w x y = lists-by (bitsIn 8 store) (by b) n stored-agrees xs v w x y

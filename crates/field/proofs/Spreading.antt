@@ -1,6 +1,6 @@
 -- Laws of the loop that spreads values to their points from the last to the first.
 use mathlib.Core.Path.{_≡_, refl, sym, ap, ap₂, _∙_, subst}
-use mathlib.Core.List.{List, [], _++_}
+use mathlib.Core.List.{List, _++_}
 use mathlib.Core.Logic.{_⊎_, ⊎-elim}
 use Prim.Native.Nat.{ℕ, zero, suc, _+_, _-_, _*_, _%_, _^_, _≤_, _<_, zero-le}
 use native.Mathlib.Nat.{zero-div, zero-add, mul-one, mul-zero, mul-le-mul-left, lt-of-le-of-lt, not-suc-le-zero, le-of-suc-le-suc}
@@ -14,7 +14,7 @@ use Rattle.bits.specs.Bits.{bitOf, bitsIn, count}
 use Rattle.bits.specs.Tables.{tab}
 use Rattle.rules.specs.Points.{valueAt}
 use Rattle.bits.proofs.Runs.{Bits, bitsIn-bits, bits-at, lt-or-ge}
-use Rattle.bits.proofs.Fill.{length-tab, getD-tab, tab-ext, fill}
+use Rattle.bits.proofs.Fill.{length-tab, getD-tab, tab-ext}
 use Rattle.bits.proofs.Ones.{count-le}
 use Rattle.laws.proofs.Gathered.{number-lt}
 use Rattle.field.specs.Down.{Down}
@@ -113,6 +113,41 @@ module _ (bm : List ℕ) (i i' c k : ℕ) (e : i' + 1 ≡ i) (h : c ≡ count (b
       down-turn (bitsIn-bits 8 bm) n v out i' (c - k) x (omega arith) (subst (λ (y : ℕ). n ≤ y) (d .len) m) (step-count .1)
       (z ∙ ap (λ (y : ℕ). getD out (c - k) 0 * y) b) (subst (Down (bitsIn 8 bm) n v out) (sym e) d)
 
+-- from point `top` down to point i each has its value, and d values are left
+abbrev pub Settled : List ℕ → ℕ → ℕ → List ℕ → List ℕ → ℕ → ℕ → Type 0
+Settled bm n top out₀ out i d =
+    (d ≡ count (bitsIn 8 bm) 0 i) × (length out ≡ length out₀) × ((v : List ℕ) → Down (bitsIn 8 bm) n v out₀ top → Down (bitsIn 8 bm) n v out i)
+
+module _ (bm : List ℕ) (n top i i' d k : ℕ) (out₀ out : List ℕ) (e : i' + 1 ≡ i) (l : i ≤ n) (m : n ≤ length out₀) (b : k ≡ bitsIn 8 bm i') (s : Settled bm n top out₀ out i d) where
+  pub settle-asks : ((k < 2) × ((k ≤ d) × (d - k ≤ i'))) × (i' < length out)
+  settle-asks =
+      let t = step-count bm i i' d k e (s .0) b in
+      let u = bitsIn-bits 8 bm i' in
+      ((omega arith, (t .0, t .2)), omega arith)
+
+  pub settle-turn : (r : ℕ) (o : List ℕ) → r ≡ d - k → o ≡ set out i' (getD out (d - k) 0 * k) → Settled bm n top out₀ o i' r
+  settle-turn r o f g = (
+    f ∙ step-count bm i i' d k e (s .0) b .1,
+    ap length g ∙ length-set out i' _ ∙ s .1,
+    λ v q. subst (λ (x : List ℕ). Down (bitsIn 8 bm) n v x i') (sym g) (down-step bm i i' d k e (s .0) b n out _ l (subst (λ (x : ℕ). n ≤ x) (sym (s .1)) m) refl v (s .2 v q)),
+  )
+
+-- the points of octet g: point j, whose bit is k
+module _ (bm : List ℕ) (n g j d k : ℕ) (out₀ out : List ℕ) (some : 0 < j) (few : j ≤ 8) (l : g * 8 + 8 ≤ n) (m : n ≤ length out₀)
+    (b : k ≡ bitsIn 8 bm (g * 8 + (j - 1))) (s : Settled bm n (g * 8 + 8) out₀ out (g * 8 + j) d) where
+  pub octet-asks : ((k < 2) × ((k ≤ d) × (d - k ≤ g * 8 + (j - 1)))) × (g * 8 + (j - 1) < length out)
+  octet-asks = settle-asks bm n (g * 8 + 8) (g * 8 + j) (g * 8 + (j - 1)) d k out₀ out (omega arith) (omega arith) m b s
+
+  pub octet-turn : (r : ℕ) (o : List ℕ) → r ≡ d - k → o ≡ set out (g * 8 + (j - 1)) (getD out (d - k) 0 * k)
+      → (j - 1 ≤ 8) × Settled bm n (g * 8 + 8) out₀ o (g * 8 + (j - 1)) r
+  octet-turn r o f e = (omega arith, settle-turn bm n (g * 8 + 8) (g * 8 + j) (g * 8 + (j - 1)) d k out₀ out (omega arith) (omega arith) m b s r o f e)
+
+pub settled-octet : (bm : List ℕ) (n g j d : ℕ) (out₀ out : List ℕ) → j ≡ 0 → Settled bm n (g * 8 + 8) out₀ out (g * 8 + j) d
+    → (d ≡ count (bitsIn 8 bm) 0 (g * 8)) × ((v : List ℕ) → Down (bitsIn 8 bm) n v out₀ (g * 8 + 8) → Down (bitsIn 8 bm) n v out (g * 8))
+settled-octet bm n g j d out₀ out z s =
+    let e : g * 8 + j ≡ g * 8 = omega arith in
+    (s .0 ∙ ap (count (bitsIn 8 bm) 0) e, λ v q. subst (Down (bitsIn 8 bm) n v out) e (s .2 v q))
+
 -- the value of a present point lies among the first: values put before others spread as by themselves
 pub spread-front : {f : ℕ → ℕ} → Bits f → (xs v : List ℕ) (p : ℕ) → length xs ≡ count f 0 p → p ≤ length v
     → tab (valueAt f (xs ++ drop (length xs) v)) p ++ drop p (xs ++ drop (length xs) v) ≡ tab (valueAt f xs) p ++ drop p v
@@ -137,16 +172,6 @@ spread-front {f} b xs v p e l = ap₂ (λ (x y : List ℕ). x ++ y) (tab-ext (va
     rest : drop p w ≡ drop p v
     rest =
         ap (λ (y : ℕ). drop y w) (sym back) ∙ drop-append-add xs (drop (length xs) v) (p - length xs) ∙ drop-drop (p - length xs) (length xs) v ∙ ap (λ (y : ℕ). drop y v) back
-
--- marks: what a loop leaves that begins with i₀ of them put into d
-abbrev pub Marks : List ℕ → List ℕ → ℕ → List ℕ → ℕ → ℕ → Type 0
-Marks bm out₀ i₀ out i n = (d : List ℕ) → n ≤ length d → out₀ ≡ tab (bitsIn 8 bm) i₀ ++ drop i₀ d → out ≡ tab (bitsIn 8 bm) i ++ drop i d
-
-pub mark-turn : (bm out₀ out : List ℕ) (i₀ i n x : ℕ) → i < n → x ≡ bitsIn 8 bm i → Marks bm out₀ i₀ out i n → Marks bm out₀ i₀ (set out i x) (i + 1) n
-mark-turn bm out₀ out i₀ i n x l e m d k z = ap₂ (λ (o : List ℕ) (y : ℕ). set o i y) (m d k z) e ∙ fill (bitsIn 8 bm) i d (omega arith)
-
-pub marks-same : (bm out₀ out : List ℕ) (i₀ i j n : ℕ) → i ≡ j → Marks bm out₀ i₀ out i n → Marks bm out₀ i₀ out j n
-marks-same bm out₀ out i₀ i j n e m = subst (λ (x : ℕ). Marks bm out₀ i₀ out x n) e m
 
 pub bit-none : (j : ℕ) → bitOf 8 0 j ≡ 0
 unfolding bitOf

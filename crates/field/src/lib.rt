@@ -4,13 +4,15 @@ ghost use mathlib.Core.Path.{_≡_};
 ghost use Rattle.rules.specs.Reading.{readOf, valuesAfter, marksAfter};
 
 mod lists; // lists.rt: values and marks by the kind of bitmap
-mod spread; // spread.rt: values to their points, and marks, through a bitmap
+mod spread; // spread.rt: values to their points through a bitmap
 
-use crate::lists::fill;
+use crate::lists::fill_lists;
+use marks::long;
 use message::header;
 use message::refused;
+use reply::refusal;
 use rules::Header;
-use rules::Refusal;
+use rules::bounds::BDS_HEAD;
 
 // The header of a message, with its values and marks put at the front of the lent lists.
 pub fn read(s: &[u8], number: u16, store: &[u8], values: &mut [u32], marks: &mut [u8]) -> Header
@@ -23,13 +25,13 @@ pub fn read(s: &[u8], number: u16, store: &[u8], values: &mut [u32], marks: &mut
         return h;
     }
     let n = h.points;
-    if (values.len() < n as usize) | (marks.len() < n as usize) {
-        return refused(Refusal { number: 14 });
+    if (values.len() < n as usize) | (marks.len() < long(n)) {
+        return refused(refusal(14));
     }
     let bitmap = h.bitmap;
     let bms = h.places.bms;
-    let at = (h.places.bds.start + 11) * 8;
-    fill(
+    let at = (h.places.bds.start + BDS_HEAD) * 8;
+    fill_lists(
         s,
         store,
         bitmap,

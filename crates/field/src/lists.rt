@@ -5,38 +5,26 @@ ghost use mathlib.Core.List.{_++_};
 ghost use Prim.Native.Nat.{_*_, _≤_};
 ghost use lib.ListN.{length, drop};
 ghost use Rattle.bits.specs.Bits.{bitsIn, count, runs};
-ghost use Rattle.bits.specs.Tables.{tab};
 ghost use Rattle.rules.specs.Bitmap.{bitmapOctets, inForce, presentBy};
 ghost use Rattle.rules.specs.Places.{after};
 ghost use Rattle.rules.specs.Points.{scattered};
-use crate::spread::marks_of;
+ghost use Rattle.marks.specs.Marks.{markedBy};
 use crate::spread::spread;
+use marks::fill;
+use marks::fill_all;
 use rules::Bitmap;
 use rules::Part;
 use runs::unpack;
-
-// A mark of 1 for each of the first n points.
-fn all_marked(marks: &mut [u8], n: usize)
-    requires { ⌜ n ≤ length (now marks) ⌝ }
-    ensures { λ _. ⌜ now (marks .exit) ≡ tab (λ _. 1) n ++ drop n (now (marks .entry)) ⌝ }
-{
-    let mut i: usize = 0;
-    while i < n {
-        marks[i] = 1;
-        i += 1;
-    }
-}
 
 // n points, all present: their values of so many bits each stand one after another from bit place `at` on.
 fn all_present(s: &[u8], at: u32, bits: u8, n: u32, values: &mut [u32], marks: &mut [u8])
     requires { ⌜ bits ≤ 24 ⌝ }
     requires { ⌜ n ≤ length (now values) ⌝ }
-    requires { ⌜ n ≤ length (now marks) ⌝ }
     ensures { λ _. ⌜ now (values .exit) ≡ runs (bitsIn 8 (now (s .entry))) at bits n ++ drop n (now (values .entry)) ⌝ }
-    ensures { λ _. ⌜ now (marks .exit) ≡ tab (λ _. 1) n ++ drop n (now (marks .entry)) ⌝ }
+    ensures { λ _. ⌜ now (marks .exit) ≡ markedBy (λ _. 1) n (now (marks .entry)) ⌝ }
 {
     unpack(s, at, bits, values, n);
-    all_marked(marks, n as usize);
+    fill_all(n, marks);
 }
 
 // n points, m of them present by the bitmap: the present ones' values stand one after another from bit place `at` on. They are unpacked to
@@ -55,17 +43,16 @@ fn some_present(
     requires { ⌜ m ≡ count (bitsIn 8 (now bitmap)) 0 n ⌝ }
     requires { ⌜ n ≤ length (now bitmap) * 8 ⌝ }
     requires { ⌜ n ≤ length (now values) ⌝ }
-    requires { ⌜ n ≤ length (now marks) ⌝ }
     ensures { λ _. ⌜ now (values .exit) ≡ scattered (bitsIn 8 (now (bitmap .entry))) (runs (bitsIn 8 (now (s .entry))) at bits m) n ++ drop n (now (values .entry)) ⌝ }
-    ensures { λ _. ⌜ now (marks .exit) ≡ tab (bitsIn 8 (now (bitmap .entry))) n ++ drop n (now (marks .entry)) ⌝ }
+    ensures { λ _. ⌜ now (marks .exit) ≡ markedBy (bitsIn 8 (now (bitmap .entry))) n (now (marks .entry)) ⌝ }
 {
     unpack(s, at, bits, values, m);
     spread(bitmap, values, n as usize, m as usize);
-    marks_of(bitmap, marks, n as usize);
+    fill(bitmap, 0, n, marks);
 }
 
 // n points of which m are present, by a bitmap of any kind whose section lies at bms.
-pub(crate) fn fill(
+pub(crate) fn fill_lists(
     s: &[u8],
     store: &[u8],
     bitmap: Bitmap,
@@ -81,9 +68,8 @@ pub(crate) fn fill(
     requires { ⌜ m ≡ count (presentBy bitmap (bitmapOctets (now s) (now store) (inForce bitmap bms n))) 0 n ⌝ }
     requires { ⌜ after (inForce bitmap bms n .part) ≤ length (cond (inForce bitmap bms n .stored) (now store) (now s)) ⌝ }
     requires { ⌜ n ≤ length (now values) ⌝ }
-    requires { ⌜ n ≤ length (now marks) ⌝ }
     ensures { λ _. ⌜ now (values .exit) ≡ scattered (presentBy bitmap (bitmapOctets (now (s .entry)) (now (store .entry)) (inForce bitmap bms n))) (runs (bitsIn 8 (now (s .entry))) at bits m) n ++ drop n (now (values .entry)) ⌝ }
-    ensures { λ _. ⌜ now (marks .exit) ≡ tab (presentBy bitmap (bitmapOctets (now (s .entry)) (now (store .entry)) (inForce bitmap bms n))) n ++ drop n (now (marks .entry)) ⌝ }
+    ensures { λ _. ⌜ now (marks .exit) ≡ markedBy (presentBy bitmap (bitmapOctets (now (s .entry)) (now (store .entry)) (inForce bitmap bms n))) n (now (marks .entry)) ⌝ }
 {
     let a = bms.start as usize + 6;
     match bitmap {

@@ -1,7 +1,7 @@
-// Loops that read through a bitmap: values to their points, and marks.
+// Values to their points through a bitmap, the last first.
 ghost use mathlib.Core.Path.{_≡_};
-ghost use Prim.Native.Nat.{ℕ, _+_, _*_, _<_, _≤_};
-ghost use lib.ListN.{length, drop};
+ghost use Prim.Native.Nat.{ℕ, _+_, _-_, _*_, _<_, _≤_};
+ghost use lib.ListN.{length, drop, getD, set};
 ghost use mathlib.Core.List.{List, _++_};
 ghost use Rattle.bits.specs.Bits.{bitOf, bitsIn, count};
 ghost use Rattle.bits.specs.Tables.{tab};
@@ -24,6 +24,18 @@ fn times(v: u32, k: u32) -> u32
     v * k
 }
 
+// Point i, whose bit is k, gets the last of d values, or 0 where it is absent; how many values are left.
+fn settle(values: &mut [u32], i: usize, d: usize, k: u32) -> usize
+    requires { ⌜ (k < 2) × ((k ≤ d) × (d - k ≤ i)) ⌝ }
+    requires { ⌜ i < length (now values) ⌝ }
+    ensures { λ r. ⌜ r ≡ d - k ⌝ }
+    ensures { λ _. ⌜ now (values .exit) ≡ set (now (values .entry)) i (getD (now (values .entry)) (d - k) 0 * k) ⌝ }
+{
+    let c = d - k as usize;
+    values[i] = times(values[c], k);
+    c
+}
+
 // The eight points of octet g of the bitmap, from the last to the first; c values stand before them and with them.
 // Octets that are all absent or all present need no bit of it.
 fn spread_octet(bitmap: &[u8], values: &mut [u32], n: usize, g: usize, c: usize) -> usize
@@ -39,20 +51,17 @@ fn spread_octet(bitmap: &[u8], values: &mut [u32], n: usize, g: usize, c: usize)
     if b == 0 {
         while j > 0 {
             j -= 1;
-            values[g * 8 + j] = 0;
+            d = settle(values, g * 8 + j, d, 0);
         }
     } else if b == 255 {
         while j > 0 {
             j -= 1;
-            d -= 1;
-            values[g * 8 + j] = values[d];
+            d = settle(values, g * 8 + j, d, 1);
         }
     } else {
         while j > 0 {
             j -= 1;
-            let k = bit(b, j);
-            d -= k as usize;
-            values[g * 8 + j] = times(values[d], k);
+            d = settle(values, g * 8 + j, d, bit(b, j));
         }
     }
     d
@@ -69,36 +78,11 @@ pub(crate) fn spread(bitmap: &[u8], values: &mut [u32], n: usize, m: usize)
     let mut c = m;
     while i % 8 != 0 {
         i -= 1;
-        let k = bit(bitmap[i / 8], i % 8);
-        c -= k as usize;
-        values[i] = times(values[c], k);
+        c = settle(values, i, c, bit(bitmap[i / 8], i % 8));
     }
     let mut g = i / 8;
     while g > 0 {
         g -= 1;
         c = spread_octet(bitmap, values, n, g, c);
-    }
-}
-
-// A mark for each of the first n points: its bit of the bitmap.
-pub(crate) fn marks_of(bitmap: &[u8], marks: &mut [u8], n: usize)
-    requires { ⌜ n ≤ length (now bitmap) * 8 ⌝ }
-    requires { ⌜ n ≤ length (now marks) ⌝ }
-    ensures { λ _. ⌜ now (marks .exit) ≡ tab (bitsIn 8 (now (bitmap .entry))) n ++ drop n (now (marks .entry)) ⌝ }
-{
-    let mut g: usize = 0;
-    while g < n / 8 {
-        let b = bitmap[g];
-        let mut j: usize = 0;
-        while j < 8 {
-            marks[g * 8 + j] = (b >> (7 - j)) % 2;
-            j += 1;
-        }
-        g += 1;
-    }
-    let mut i = g * 8;
-    while i < n {
-        marks[i] = (bitmap[i / 8] >> (7 - i % 8)) % 2;
-        i += 1;
     }
 }

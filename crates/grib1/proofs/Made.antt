@@ -3,7 +3,7 @@ use mathlib.Core.Path.{_≡_}
 use mathlib.Core.List.{List}
 use Prim.Native.Nat.{ℕ}
 use lib.IntN.{ℤ}
-use Rattle.rules.specs.declared.{Refusal.Refusal, Form.Form, Written.Written}
+use Rattle.rules.specs.declared.{Refusal.Refusal, Form.Form, Scale.Scale, Written.Written}
 use Rattle.rules.specs.Bitmap.{Lent}
 use Rattle.rules.specs.Writing.{writeOf, outputAfter}
 use Rattle.rules.specs.Checking.{checkOf}
@@ -11,7 +11,7 @@ use Rattle.rules.specs.Packing.{packOf, packedAfter}
 use Rattle.sections.specs.Given.{parts}
 use Rattle.records.specs.declared.{WrittenRecord.WrittenRecord, CheckRecord.CheckRecord}
 use Rattle.records.specs.declared.forms.{FormRecord.FormRecord}
-use Rattle.records.specs.Forms.{formBy}
+use Rattle.records.specs.Forms.{formBy, scaleBy}
 use Rattle.records.specs.Records.{writtenRecord, checkRecord}
 
 pub check-made : (s : List ℕ) (lent : Lent) (numbers : List ℤ) (marks : List ℕ) (d d' : ℤ)
@@ -21,15 +21,15 @@ pub check-made : (s : List ℕ) (lent : Lent) (numbers : List ℤ) (marks : List
     → x ≡ checkRecord (checkOf s lent (record { numbers = numbers; marks = marks; d = d }))
 check-made s lent numbers marks d d' e r q x p = rw (p, q, e)
 
-pub write-made : (pds : List ℕ) (form : FormRecord) (form' : Form) (e e' : ℤ) (r number : ℕ) (store values marks out : List ℕ)
+pub write-made : (pds : List ℕ) (form : FormRecord) (form' : Form) (e : ℤ) (r : ℕ) (scale : Scale) (number : ℕ) (store values marks out : List ℕ)
     → form' ≡ formBy form
-    → e' ≡ e
-    → (w : Written) → w ≡ writeOf (parts pds form' (record { e = record { value = e' }; r = r }) number store values marks) out
-    → (o : List ℕ) → o ≡ outputAfter (parts pds form' (record { e = record { value = e' }; r = r }) number store values marks) out
+    → scale ≡ scaleBy e r
+    → (w : Written) → w ≡ writeOf (parts pds form' scale number store values marks) out
+    → (o : List ℕ) → o ≡ outputAfter (parts pds form' scale number store values marks) out
     → (x : WrittenRecord) → x ≡ writtenRecord w
-    → (x ≡ writtenRecord (writeOf (parts pds (formBy form) (record { e = record { value = e }; r = r }) number store values marks) out))
-    × (o ≡ outputAfter (parts pds (formBy form) (record { e = record { value = e }; r = r }) number store values marks) out)
-write-made pds form form' e e' r number store values marks out f q w qw o qo x p = (rw (p, qw, f, q), rw (qo, f, q))
+    → (x ≡ writtenRecord (writeOf (parts pds (formBy form) (scaleBy e r) number store values marks) out))
+    × (o ≡ outputAfter (parts pds (formBy form) (scaleBy e r) number store values marks) out)
+write-made pds form form' e r scale number store values marks out f q w qw o qo x p = (rw (p, qw, f, q), rw (qo, f, q))
 
 pub pack-made : (pds : List ℕ) (form : FormRecord) (form' : Form) (lent : Lent) (numbers : List ℤ) (marks : List ℕ) (d d' : ℤ) (out : List ℕ)
     → form' ≡ formBy form

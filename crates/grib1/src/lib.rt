@@ -8,10 +8,13 @@ ghost use Rattle.rules.specs.Writing.{writeOf, outputAfter};
 ghost use Rattle.rules.specs.Checking.{checkOf};
 ghost use Rattle.rules.specs.Packing.{packOf, packedAfter};
 ghost use Rattle.sections.specs.Given.{parts as theParts};
-ghost use Rattle.records.specs.Forms.{formBy};
-ghost use Rattle.records.specs.Records.{partRecord, forceRecord, headerRecord, placeRecord, pointRecord, dataRecord, displayRecord, writtenRecord, checkRecord};
+ghost use Rattle.records.specs.Forms.{formBy, scaleBy};
+ghost use Rattle.point_records.specs.Records.{forceRecord, dataRecord};
+ghost use Rattle.records.specs.Records.{partRecord, headerRecord, placeRecord, pointRecord, displayRecord, writtenRecord, checkRecord};
+use point_records::DataRecord;
+use point_records::data_record;
+use point_records::force_record;
 use records::CheckRecord;
-use records::DataRecord;
 use records::DisplayRecord;
 use records::FormRecord;
 use records::HeaderRecord;
@@ -20,18 +23,16 @@ use records::PlaceRecord;
 use records::PointRecord;
 use records::WrittenRecord;
 use records::check_record;
-use records::data_record;
 use records::display_record;
-use records::force_record;
 use records::form_by;
 use records::header_record;
 use records::part_record;
 use records::place_record;
 use records::point_record;
+use records::scale_by;
 use records::written_record;
 use rules::GridPoint;
-use rules::Scale;
-use rules::Signed;
+use rules::Shape;
 use rules::Spot;
 
 // The header of a message, with the stored bitmap of a number lent.
@@ -90,17 +91,17 @@ pub extern "C" fn grib1_display(message: &[u8], number: u16, store: &[u8]) -> Di
 // Where a grid point lies on the chart.
 #[no_mangle]
 pub extern "C" fn grib1_place(ni: u16, nj: u16, scan: u8, point: u32) -> PlaceRecord
-    ensures { λ r. ⌜ r ≡ placeRecord (charted ni nj scan (record { 0 = point })) ⌝ }
+    ensures { λ r. ⌜ r ≡ placeRecord (charted (record { ni = ni; nj = nj; scan = scan }) (record { 0 = point })) ⌝ }
 {
-    place_record(chart::spot_of(ni, nj, scan, GridPoint(point)))
+    place_record(chart::spot_of(Shape { ni, nj, scan }, GridPoint(point)))
 }
 
 // The grid point that lies at a place of the chart.
 #[no_mangle]
 pub extern "C" fn grib1_point(ni: u16, nj: u16, scan: u8, row: u32, column: u32) -> PointRecord
-    ensures { λ r. ⌜ r ≡ pointRecord (pointed ni nj scan (record { row = row; column = column })) ⌝ }
+    ensures { λ r. ⌜ r ≡ pointRecord (pointed (record { ni = ni; nj = nj; scan = scan }) (record { row = row; column = column })) ⌝ }
 {
-    point_record(chart::point_at(ni, nj, scan, Spot { row, column }))
+    point_record(chart::point_at(Shape { ni, nj, scan }, Spot { row, column }))
 }
 
 // The data number of a grid point of a message.
@@ -129,13 +130,10 @@ pub extern "C" fn grib1_write(
     marks: &[u8],
     out: &mut [u8],
 ) -> WrittenRecord
-    ensures { λ w. ⌜ w ≡ writtenRecord (writeOf (theParts (now (pds .entry)) (formBy form) (record { e = record { value = e }; r = r }) number (now (store .entry)) (now (values .entry)) (now (marks .entry))) (now (out .entry))) ⌝ }
-    ensures { λ _. ⌜ now (out .exit) ≡ outputAfter (theParts (now (pds .entry)) (formBy form) (record { e = record { value = e }; r = r }) number (now (store .entry)) (now (values .entry)) (now (marks .entry))) (now (out .entry)) ⌝ }
+    ensures { λ w. ⌜ w ≡ writtenRecord (writeOf (theParts (now (pds .entry)) (formBy form) (scaleBy e r) number (now (store .entry)) (now (values .entry)) (now (marks .entry))) (now (out .entry))) ⌝ }
+    ensures { λ _. ⌜ now (out .exit) ≡ outputAfter (theParts (now (pds .entry)) (formBy form) (scaleBy e r) number (now (store .entry)) (now (values .entry)) (now (marks .entry))) (now (out .entry)) ⌝ }
 {
-    let scale = Scale {
-        e: Signed { value: e },
-        r,
-    };
+    let scale = scale_by(e, r);
     written_record(writer::write(pds, form_by(form), scale, number, store, values, marks, out))
 }
 

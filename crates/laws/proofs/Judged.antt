@@ -1,5 +1,5 @@
 -- The reader's rows 1 to 12 as twelve named facts, there and back: nothing else looks at its table by position.
-use mathlib.Core.Bool.{false, _&&_, _||_}
+use mathlib.Core.Bool.{true, false, _&&_, _||_}
 use mathlib.Core.Path.{_≡_}
 use mathlib.Core.List.{List, [], _∷_}
 use Prim.Native.Nat.{ℕ}
@@ -14,7 +14,7 @@ use Rattle.rules.specs.Values.{packingFaults, lengthBad}
 use Rattle.rules.specs.Reading.{gridOf, pointsIn, bitmapIn, presentCount, packingIn, layoutRows, gridRows, dataRows, parsedOf, earlierRows, messageTable, ownRefusal, readTable, readRefusal}
 use Rattle.laws.specs.Tables.{Clear}
 use Rattle.laws.specs.Taken.{Taken}
-use Rattle.laws.proofs.Rows.{clear, clear-parts, accepts, taken-by}
+use Rattle.laws.proofs.Rows.{zero-of, clear, clear-parts, accepts, taken-by}
 
 pub record Judged (s : List ℕ) (lent : Lent) : Type 0 where
   pub size : sizeBad s ≡ false
@@ -41,6 +41,15 @@ read-taken s lent values marks t =
     let h = clear (readTable s lent values marks) (tt, (tt, (tt, (tt, (tt, (tt, (tt, (tt, (tt, (tt, (tt, (tt, (tt, tt))))))))))))) t in
     let last = row 14 (ltb (length values) (pointsIn s) || ltb (length marks) (pointsIn s)) in
     taken-by _ (accepts (messageTable s lent) (clear-parts (messageTable s lent) (last ∷ []) h .0))
+
+-- where they accept, the reply is refusal 0
+pub own-zero : (s : List ℕ) (lent : Lent) → accepted (ownRefusal s lent) ≡ true → ownRefusal s lent ≡ refusal 0
+unfolding ownRefusal messageTable earlierRows layoutRows gridRows dataRows parsedOf
+own-zero s lent = zero-of (messageTable s lent) (tt, (tt, (tt, (tt, (tt, (tt, (tt, (tt, (tt, (tt, (tt, (tt, tt))))))))))))
+
+pub read-zero : (s : List ℕ) (lent : Lent) (values marks : List ℕ) → accepted (readRefusal s lent values marks) ≡ true → readRefusal s lent values marks ≡ refusal 0
+unfolding readRefusal readTable messageTable earlierRows layoutRows gridRows dataRows parsedOf
+read-zero s lent values marks = zero-of (readTable s lent values marks) (tt, (tt, (tt, (tt, (tt, (tt, (tt, (tt, (tt, (tt, (tt, (tt, (tt, tt)))))))))))))
 
 pub judged : (s : List ℕ) (lent : Lent) → Taken s lent → Judged s lent
 unfolding messageTable earlierRows layoutRows gridRows dataRows parsedOf

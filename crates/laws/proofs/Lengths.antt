@@ -7,10 +7,10 @@ use lib.ListN.{length}
 use Rattle.bits.specs.Bits.{bitsIn, runs, octetsFor}
 use Rattle.bits.proofs.Trip.{length-runs}
 use Rattle.rules.specs.declared.{Grid.Grid, Packing.Packing, Scale.Scale}
-use Rattle.rules.specs.Bounds.{gdsLength}
-use Rattle.rules.specs.Numbers.{Field, field, signedField, laid, evenFrom}
+use Rattle.rules.specs.Bounds.{gdsLength, bdsHead}
+use Rattle.rules.specs.Numbers.{Field, laid, evenFrom}
 use Rattle.rules.specs.Grid.{gridFields, gdsOf}
-use Rattle.rules.specs.Values.{bdsOf}
+use Rattle.rules.specs.Values.{bdsFields, bdsOf}
 use Rattle.laws.proofs.Fields.{laid-length}
 
 pub gds-laid : (g : Grid) → gdsOf g ≡ laid (gridFields g) []
@@ -21,18 +21,18 @@ pub gds-length : (g : Grid) → length (gdsOf g) ≡ gdsLength
 unfolding gridFields
 gds-length g = ap length (gds-laid g) ∙ laid-length (gridFields g) []
 
--- a section's length, of t bits after its 11 octets, and the bits left over
+-- a section's length, of t bits after its head, and the bits left over
 abbrev pub dataLen : ℕ → ℕ
-dataLen t = evenFrom (11 + octetsFor t)
+dataLen t = evenFrom (bdsHead + octetsFor t)
 
 abbrev pub unused : ℕ → ℕ
-unused t = 8 * (dataLen t - 11) - t
+unused t = 8 * (dataLen t - bdsHead) - t
 
 abbrev pub dataFields : Packing → Scale → ℕ → List Field
-dataFields p c t = field 3 (dataLen t) ∷ field 1 (p .flags * 16 + unused t) ∷ signedField 2 (c .e) ∷ field 4 (c .r) ∷ field 1 (p .bits) ∷ []
+dataFields p c t = bdsFields (dataLen t) (unused t) p c
 
 abbrev pub dataBits : Packing → List ℕ → List ℕ
-dataBits p xs = runs (bitsIn (p .bits) xs) 0 8 (dataLen (length xs * p .bits) - 11)
+dataBits p xs = runs (bitsIn (p .bits) xs) 0 8 (dataLen (length xs * p .bits) - bdsHead)
 
 pub bds-laid : (p : Packing) (c : Scale) (xs : List ℕ) → bdsOf p c xs ≡ laid (dataFields p c (length xs * p .bits)) (dataBits p xs)
 unfolding bdsOf
@@ -41,6 +41,6 @@ bds-laid p c xs = refl
 pub bds-length : (p : Packing) (c : Scale) (xs : List ℕ) → length (bdsOf p c xs) ≡ dataLen (length xs * p .bits)
 bds-length p c xs =
     let t = length xs * p .bits in
-    let e : length (dataBits p xs) ≡ dataLen t - 11 = length-runs (bitsIn (p .bits) xs) 0 8 (dataLen t - 11) in
-    let g : length (laid (dataFields p c t) (dataBits p xs)) ≡ 11 + length (dataBits p xs) = laid-length (dataFields p c t) (dataBits p xs) in
+    let e : length (dataBits p xs) ≡ dataLen t - bdsHead = length-runs (bitsIn (p .bits) xs) 0 8 (dataLen t - bdsHead) in
+    let g : length (laid (dataFields p c t) (dataBits p xs)) ≡ bdsHead + length (dataBits p xs) = laid-length (dataFields p c t) (dataBits p xs) in
     ap length (bds-laid p c xs) ∙ omega arith

@@ -9,6 +9,7 @@ pub mod Lead
 pub mod Judged
 pub mod Sections
 pub mod Bounded
+pub mod Data
 -- what the writer's parts are
 pub mod Lengths
 pub mod Gathered

@@ -5,7 +5,10 @@ use mathlib.Core.Path.{_≡_, refl}
 use native.Mathlib.Omega.{arith}
 use borrow.Author.Tests.{ltb-false, leb-false, eqb-true, eq-eqb, not-false}
 use lib.Dec.{ltb, leb, eqb}
+use mathlib.Core.List.{List}
 use Rattle.bits.proofs.Tests.{or-false}
+use Rattle.bits.proofs.Below.{none-below}
+use Rattle.rules.specs.Bitmap.{markOf, markOdd}
 use Rattle.rules.specs.Writing.{pointBad}
 use Rattle.laws.proofs.Rows.{and-false, clash, is-eq}
 
@@ -16,7 +19,6 @@ flags-two f false false p q e = clash true refl e
 
 -- what row 13 leaves of a point
 pub record PointOk (bitmap : Bool) (bits m v : ℕ) : Type 0 where
-  pub mark : m < 2
   pub absent : m ≡ 0 → (bitmap ≡ true) × (v ≡ 0)
   pub value : v < 2 ^ bits
 
@@ -28,6 +30,9 @@ absent-ok bitmap mark value e z =
 pub point-ok : (bitmap : Bool) (bits mark value : ℕ) → pointBad bitmap bits mark value ≡ false → PointOk bitmap bits mark value
 unfolding pointBad
 point-ok bitmap bits mark value e =
-    let h = or-false (ltb 1 mark || (eqb mark 0 && (not bitmap || not (eqb value 0)))) (leb (2 ^ bits) value) e in
-    let k = or-false (ltb 1 mark) (eqb mark 0 && (not bitmap || not (eqb value 0))) (h .0) in
-    record { mark = omega (arith, ltb-false 1 mark (k .0)); absent = absent-ok bitmap mark value (k .1); value = leb-false (2 ^ bits) value (h .1) }
+    let h = or-false (eqb mark 0 && (not bitmap || not (eqb value 0))) (leb (2 ^ bits) value) e in
+    record { absent = absent-ok bitmap mark value (h .0); value = leb-false (2 ^ bits) value (h .1) }
+
+-- what it leaves of the marks
+pub even-marks : (marks : List ℕ) (n : ℕ) → markOdd marks n ≡ false → (i : ℕ) → i < n → markOf marks i < 2
+even-marks marks n e i l = omega (arith, ltb-false 1 (markOf marks i) (none-below (λ i. ltb 1 (markOf marks i)) n e i l))

@@ -45,6 +45,10 @@ unfolding first firstOr
 accepts [] h = refl
 accepts (given r test ∷ rows) h = ap (λ (t : Bool). cond t r (first rows)) (h .0) ∙ accepts rows (h .1)
 
+-- an accepted table's reply is refusal 0: nothing rebuilds a refusal from its number
+pub zero-of : (rows : List Row) → Numbered rows → accepted (first rows) ≡ true → first rows ≡ refusal 0
+zero-of rows h e = accepts rows (clear rows h (subst T (sym e) tt))
+
 pub taken-by : (r : Refusal) → r ≡ refusal 0 → T (accepted r)
 taken-by r e = subst (λ (x : Refusal). T (accepted x)) (sym e) tt
 

@@ -7,9 +7,10 @@ use borrow.Author.Tests.{lt-ltb, le-ltb, ltb-true, ltb-false, ne-eqb}
 use lib.Dec.{ltb, eqb}
 use lib.IntN.{ℤ, pos, negsuc, negℤ, natAbs}
 use Rattle.rules.specs.declared.{Signed.Signed}
-use Rattle.rules.specs.Numbers.{sign, signed, spelled}
+use Rattle.laws.specs.Signs.{SignFree}
+use Rattle.rules.specs.Numbers.{sign, plain, signed, spelledValue, spelled}
 
-value-back : (half : ℕ) (c : ℕ) (z : ℤ) → half ≡ sign c → natAbs z < half → signed c (spelled c z) .value ≡ z
+value-back : (half : ℕ) (c : ℕ) (z : ℤ) → half ≡ sign c → natAbs z < half → signed c (spelledValue c z) .value ≡ z
 unfolding signed
 value-back half c (pos n) e h = simp (lt-ltb n (sign c) (subst (λ (x : ℕ). n < x) e h))
 value-back half c (negsuc n) e h =
@@ -17,31 +18,34 @@ value-back half c (negsuc n) e h =
     simp (le-ltb (sign c + suc n) (sign c) (omega arith), f)
 
 -- a signed field where its number was read back
-pub signed-read : (c v : ℕ) (z : Signed) → v ≡ spelled c (z .value) → natAbs (z .value) < sign c → signed c v ≡ z
-signed-read c v z e h = ap (signed c) e ∙ (λ i. record { value = value-back (sign c) c (z .value) refl h i })
+pub signed-read : (c v : ℕ) (z : Signed) → v ≡ spelled c z → SignFree c z → signed c v ≡ z
+signed-read c v z e h = ap (signed c) e ∙ ap plain (value-back (sign c) c (z .value) refl h)
 
-pub spelled-lt : (c top : ℕ) (z : ℤ) → sign c + sign c ≡ top → natAbs z < sign c → spelled c z < top
-spelled-lt c top (pos n) e h = omega arith
-spelled-lt c top (negsuc n) e h = omega arith
+value-lt : (c top : ℕ) (z : ℤ) → sign c + sign c ≡ top → natAbs z < sign c → spelledValue c z < top
+value-lt c top (pos n) e h = omega arith
+value-lt c top (negsuc n) e h = omega arith
+
+pub spelled-lt : (c top : ℕ) (z : Signed) → sign c + sign c ≡ top → SignFree c z → spelled c z < top
+spelled-lt c top z = value-lt c top (z .value)
 
 -- no signed field is written as minus zero
-spelled-not : (c : ℕ) (z : ℤ) → natAbs z < sign c → spelled c z ≡ sign c → ⊥
-spelled-not c (pos n) h e = omega arith
-spelled-not c (negsuc n) h e = omega arith
+value-not : (c : ℕ) (z : ℤ) → natAbs z < sign c → spelledValue c z ≡ sign c → ⊥
+value-not c (pos n) h e = omega arith
+value-not c (negsuc n) h e = omega arith
 
-pub plus : (c v : ℕ) (z : ℤ) → v ≡ spelled c z → natAbs z < sign c → eqb v (sign c) ≡ false
-plus c v z e h = ne-eqb v (sign c) (λ q. spelled-not c z h (sym e ∙ q))
+pub plus : (c v : ℕ) (z : Signed) → v ≡ spelled c z → SignFree c z → eqb v (sign c) ≡ false
+plus c v z e h = ne-eqb v (sign c) (λ q. value-not c (z .value) h (sym e ∙ q))
 
 -- a signed field that is not minus zero
-spelled-neg : (h c v d : ℕ) → h ≡ sign c → h ≤ v → (v ≡ h → ⊥) → v - h ≡ d → spelled c (negℤ (pos d)) ≡ v
+spelled-neg : (h c v d : ℕ) → h ≡ sign c → h ≤ v → (v ≡ h → ⊥) → v - h ≡ d → spelledValue c (negℤ (pos d)) ≡ v
 spelled-neg h c v zero e l z q = absurd (z (omega arith))
 spelled-neg h c v (suc d) e l z q = ap (λ (x : ℕ). x + suc d) (sym e) ∙ omega arith
 
-pub signed-here : (c v : ℕ) → (v ≡ sign c → ⊥) → v ≡ spelled c (signed c v .value)
+pub signed-here : (c v : ℕ) → (v ≡ sign c → ⊥) → v ≡ spelled c (signed c v)
 unfolding signed
 signed-here c v z = sym (go (ltb v (sign c)) refl)
   where
-    go : (t : Bool) → ltb v (sign c) ≡ t → spelled c (cond t (pos v) (negℤ (pos (v - sign c)))) ≡ v
+    go : (t : Bool) → ltb v (sign c) ≡ t → spelledValue c (cond t (pos v) (negℤ (pos (v - sign c)))) ≡ v
     go true e = refl
     go false e = spelled-neg (sign c) c v (v - sign c) refl (ltb-false v (sign c) e) z refl
 
@@ -50,7 +54,7 @@ neg-size : (d : ℕ) → natAbs (negℤ (pos d)) ≡ d
 neg-size zero = refl
 neg-size (suc d) = refl
 
-pub signed-size : (c v : ℕ) → v < sign c + sign c → natAbs (signed c v .value) < sign c
+pub signed-size : (c v : ℕ) → v < sign c + sign c → SignFree c (signed c v)
 unfolding signed
 signed-size c v h = go (ltb v (sign c)) refl
   where

@@ -5,49 +5,53 @@ use mathlib.Core.Bool.{Bool, true, false, cond}
 use Prim.Native.Nat.{ℕ, suc, _+_, _*_, _≤_, _<_}
 use native.Mathlib.Nat.{mul-comm, mul-assoc, suc-mul, mul-le-mul-right}
 use native.Mathlib.Omega.{arith}
-use borrow.Author.Tests.{lt-ltb, eq-eqb, ne-eqb}
+use borrow.Author.Tests.{lt-ltb}
 use mathlib.Core.List.{List, [], _∷_}
 use lib.Dec.{eqb}
 use lib.ListN.{length, getD}
 use lib.Arith.{digits-lt}
 use Rattle.chart.proofs.Laws.{turned-lt}
-use Rattle.rules.specs.declared.{Grid.Grid, GridPoint.GridPoint, Spot.Spot, Pointed.Pointed, Pointed.the-variants.At, Pointed.the-variants.Off}
+use Rattle.rules.specs.declared.{Shape.Shape, GridPoint.GridPoint, Spot.Spot, Pointed.Pointed, Pointed.the-variants.At, Pointed.the-variants.Off}
 use Rattle.rules.specs.Bitmap.{markOf, valueOf}
 use Rattle.rules.specs.Listing.{hyphen, joinedTo, stop, ended, line, decimal, cell, rowLine, rowLines}
 use Rattle.listing.specs.Text.{Wrote}
 use Rattle.listing.proofs.Writes.{wrote-part, wrote-next, joined-most, ended-most}
 use Rattle.listing.proofs.Digits.{decimal-most}
-use Rattle.rules.specs.Chart.{west, north, byColumn, pointOf, pointed}
+use Rattle.rules.specs.Chart.{west, north, byColumn, pointOf, pointsOn, rowsOn, rowLong, pointOn, pointed}
 
-module _ (ni nj scan : ℕ) (c : Spot) (hr : c .row < nj) (hc : c .column < ni) where
-  pub point-lt : pointOf ni nj scan c < ni * nj
-  unfolding pointOf
-  point-lt = go (byColumn scan) _ _ (turned-lt (west scan) ni (c .column) _ refl hc) (turned-lt (north scan) nj (c .row) _ refl hr)
-    where
-      go : (t : Bool) (i j : ℕ) → i < ni → j < nj → cond t (i * nj + j) (j * ni + i) < ni * nj
-      go true i j h k = digits-lt h k
-      go false i j h k = subst (λ (x : ℕ). j * ni + i < x) (mul-comm nj ni) (digits-lt k h)
+-- a point of a rectangle
+lt-all : (ni nj scan : ℕ) (c : Spot) → c .row < nj → c .column < ni → pointOf ni nj scan c < ni * nj
+unfolding pointOf
+lt-all ni nj scan c hr hc = go (byColumn scan) _ _ (turned-lt (west scan) ni (c .column) _ refl hc) (turned-lt (north scan) nj (c .row) _ refl hr)
+  where
+    go : (t : Bool) (i j : ℕ) → i < ni → j < nj → cond t (i * nj + j) (j * ni + i) < ni * nj
+    go true i j h k = digits-lt h k
+    go false i j h k = subst (λ (x : ℕ). j * ni + i < x) (mul-comm nj ni) (digits-lt k h)
 
-  inside : pointed ni nj scan c ≡ At (record { 0 = pointOf ni nj scan c })
+module _ (g : Shape) (c : Spot) (hr : c .row < rowsOn g) (hc : c .column < rowLong g (c .row)) where
+  pub point-lt : pointOn g c < pointsOn g
+  point-lt = lt-all (g .ni) (g .nj) (g .scan) c hr hc
+
+  inside : pointed g c ≡ At (record { 0 = pointOn g c })
   unfolding pointed
-  inside = rw (lt-ltb (c .row) nj hr, lt-ltb (c .column) ni hc)
+  inside = rw (lt-ltb (c .row) (rowsOn g) hr, lt-ltb (c .column) (rowLong g (c .row)) hc)
 
-  pub point-at : (p : Pointed) (q : GridPoint) → p ≡ pointed ni nj scan c → p ≡ At q → (q .0 ≡ pointOf ni nj scan c) × (q .0 < ni * nj)
+  pub point-at : (p : Pointed) (q : GridPoint) → p ≡ pointed g c → p ≡ At q → (q .0 ≡ pointOn g c) × (q .0 < pointsOn g)
   point-at p q e f =
       let i = inside in
-      let same : q ≡ record { 0 = pointOf ni nj scan c } = cc in
-      let is : q .0 ≡ pointOf ni nj scan c = ap (λ (x : GridPoint). x .0) same in
-      (is, subst (λ (x : ℕ). x < ni * nj) (sym is) point-lt)
+      let same : q ≡ record { 0 = pointOn g c } = cc in
+      let is : q .0 ≡ pointOn g c = ap (λ (x : GridPoint). x .0) same in
+      (is, subst (λ (x : ℕ). x < pointsOn g) (sym is) point-lt)
 
-  pub never-off : (p : Pointed) → p ≡ pointed ni nj scan c → p ≡ Off → ⊥
+  pub never-off : (p : Pointed) → p ≡ pointed g c → p ≡ Off → ⊥
   never-off p e f =
       let i = inside in
       let z : _≡_ {A = ℕ} 0 1 = cc in
       omega arith
 
 -- cell c of row r, and what follows it
-abbrev pub word : List ℕ → List ℕ → Grid → ℕ → ℕ → List ℕ
-word values marks g r c = ended (cell (markOf marks) values (pointOf (g .ni) (g .nj) (g .scan) (record { row = r; column = c }))) (stop (g .ni) c)
+abbrev pub word : List ℕ → List ℕ → Shape → ℕ → ℕ → List ℕ
+word values marks g r c = ended (cell (markOf marks) values (pointOn g (record { row = r; column = c }))) (stop (rowLong g r) c)
 
 cell-most : (present : ℕ → ℕ) (values : List ℕ) (i : ℕ) → length (cell present values i) ≤ 10
 unfolding cell
@@ -60,36 +64,36 @@ cell-most present values i = go (eqb (present i) 1)
 pub here-most : (values marks : List ℕ) (i x : ℕ) → length (ended (cell (markOf marks) values i) x) ≤ 11
 here-most values marks i x = ended-most (cell (markOf marks) values i) x 10 (cell-most (markOf marks) values i)
 
-pub word-most : (values marks : List ℕ) (g : Grid) (r c : ℕ) → length (word values marks g r c) ≤ 11
-word-most values marks g r c = here-most values marks (pointOf (g .ni) (g .nj) (g .scan) (record { row = r; column = c })) (stop (g .ni) c)
+pub word-most : (values marks : List ℕ) (g : Shape) (r c : ℕ) → length (word values marks g r c) ≤ 11
+word-most values marks g r c = here-most values marks (pointOn g (record { row = r; column = c })) (stop (rowLong g r) c)
 
-pub row-most : (values marks : List ℕ) (g : Grid) (r : ℕ) → length (rowLine (markOf marks) values g r) ≤ g .ni * 11
+pub row-most : (values marks : List ℕ) (g : Shape) (r : ℕ) → length (rowLine (markOf marks) values g r) ≤ rowLong g r * 11
 unfolding rowLine line
-row-most values marks g r = joined-most (word values marks g r) 11 (word-most values marks g r) (g .ni)
+row-most values marks g r = joined-most (word values marks g r) 11 (word-most values marks g r) (rowLong g r)
 
 -- one more cell of a row
-pub cell-turn : (t u v : List ℕ) (at mid next : ℕ) (values marks : List ℕ) (g : Grid) (r c i x : ℕ)
+pub cell-turn : (t u v : List ℕ) (at mid next : ℕ) (values marks : List ℕ) (g : Shape) (r c i x : ℕ)
     → Wrote t u at mid (joinedTo (word values marks g r) c) → Wrote u v mid next (ended (cell (markOf marks) values i) x)
-    → i ≡ pointOf (g .ni) (g .nj) (g .scan) (record { row = r; column = c }) → x ≡ stop (g .ni) c → next ≤ length t
+    → i ≡ pointOn g (record { row = r; column = c }) → x ≡ stop (rowLong g r) c → next ≤ length t
     → Wrote t v at next (joinedTo (word values marks g r) (c + 1))
 cell-turn t u v at mid next values marks g r c i x a b e f h =
     wrote-part (word values marks g r) c a
-    (subst (λ (k : ℕ). Wrote u v mid next (ended (cell (markOf marks) values k) (stop (g .ni) c))) e
+    (subst (λ (k : ℕ). Wrote u v mid next (ended (cell (markOf marks) values k) (stop (rowLong g r) c))) e
     (subst (λ (k : ℕ). Wrote u v mid next (ended (cell (markOf marks) values i) k)) f b))
     h
 
-pub row-done : (t u : List ℕ) (at next : ℕ) (values marks : List ℕ) (g : Grid) (r c : ℕ) → c ≡ g .ni
+pub row-done : (t u : List ℕ) (at next : ℕ) (values marks : List ℕ) (g : Shape) (r c : ℕ) → c ≡ rowLong g r
     → Wrote t u at next (joinedTo (word values marks g r) c) → Wrote t u at next (rowLine (markOf marks) values g r)
 unfolding rowLine line
 row-done t u at next values marks g r c e a = subst (λ (k : ℕ). Wrote t u at next (joinedTo (word values marks g r) k)) e a
 
-pub rows-done : (t u : List ℕ) (at next : ℕ) (values marks : List ℕ) (g : Grid) (r : ℕ) → r ≡ g .nj
+pub rows-done : (t u : List ℕ) (at next : ℕ) (values marks : List ℕ) (g : Shape) (r : ℕ) → r ≡ rowsOn g
     → Wrote t u at next (joinedTo (rowLine (markOf marks) values g) r) → Wrote t u at next (rowLines (markOf marks) values g)
 unfolding rowLines
 rows-done t u at next values marks g r e a = subst (λ (k : ℕ). Wrote t u at next (joinedTo (rowLine (markOf marks) values g) k)) e a
 
 -- the room that is left for one more row
-pub rows-most : (values marks : List ℕ) (g : Grid) (r : ℕ) → length (joinedTo (rowLine (markOf marks) values g) r) ≤ r * (g .ni * 11)
+pub rows-most : (values marks : List ℕ) (g : Shape) (r : ℕ) → length (joinedTo (rowLine (markOf marks) values g) r) ≤ r * (g .ni * 11)
 rows-most values marks g r = joined-most (rowLine (markOf marks) values g) (g .ni * 11) (row-most values marks g) r
 
 pub rows-room : (ni nj r : ℕ) → r ≡ nj → r * (ni * 11) ≡ ni * nj * 11
@@ -103,12 +107,12 @@ row-room ni nj r h =
     omega arith
 
 -- what stands at a point, by its mark
-pub cell-here : (t u : List ℕ) (at next : ℕ) (values marks : List ℕ) (i x : ℕ) → getD marks i 0 ≡ 1
+pub cell-here : (t u : List ℕ) (at next : ℕ) (values marks : List ℕ) (i x : ℕ) → eqb (markOf marks i) 1 ≡ true
     → Wrote t u at next (ended (decimal (getD values i 0)) x) → Wrote t u at next (ended (cell (markOf marks) values i) x)
 unfolding cell
-cell-here t u at next values marks i x e a = rw (eq-eqb (getD marks i 0) 1 e) a
+cell-here t u at next values marks i x e a = rw e a
 
-pub cell-none : (t u v : List ℕ) (at mid next : ℕ) (values marks : List ℕ) (i x : ℕ) → (getD marks i 0 ≡ 1 → ⊥)
+pub cell-none : (t u v : List ℕ) (at mid next : ℕ) (values marks : List ℕ) (i x : ℕ) → eqb (markOf marks i) 1 ≡ false
     → Wrote t u at mid (hyphen ∷ []) → Wrote u v mid next (x ∷ []) → next ≤ length t → Wrote t v at next (ended (cell (markOf marks) values i) x)
 unfolding cell
-cell-none t u v at mid next values marks i x e a b h = rw (ne-eqb (getD marks i 0) 1 e) (wrote-next a b h)
+cell-none t u v at mid next values marks i x e a b h = rw e (wrote-next a b h)

@@ -15,13 +15,14 @@ use Rattle.bits.proofs.Fill.{length-tab, getD-tab}
 use Rattle.bits.proofs.Placing.{placed-none, placed-front}
 use Rattle.message.proofs.Stages.{one-more}
 use Rattle.message.proofs.Said.{refusal-by}
-use Rattle.rules.specs.declared.{Refusal.Refusal, Grid.Grid, Header.Header}
+use Rattle.laws.proofs.Judged.{read-zero}
+use Rattle.rules.specs.declared.{Refusal.Refusal, Shape.Shape, Header.Header}
 use Rattle.rules.specs.Bounds.{listedMost, listedRoom}
 use Rattle.rules.specs.Table.{row, refusal, firstOr, first, accepted, filled}
 use Rattle.rules.specs.Grid.{pointsOf}
 use Rattle.rules.specs.Bitmap.{Lent, markOf, valueOf}
 use Rattle.rules.specs.Points.{scattered}
-use Rattle.rules.specs.Chart.{pointOf}
+use Rattle.rules.specs.Chart.{pointsOn, rowsOn, rowLong, columnsOn, pointOn}
 use Rattle.rules.specs.Reading.{pointsIn, presentIn, valuesIn, marksIn, parsedOf, foundBy, foundIn, answerBy, ownRefusal, messageTable, readTable, readRefusal, readOf, valuesAfter, marksAfter}
 use Rattle.rules.specs.Listing.{noStore, decimal, hyphen, cell, stop, ended, line, joinedTo, rowLine, rowLines, firstLine, refusedLine, listingRefusal, listingOf}
 use Rattle.listing.specs.Text.{Wrote, counts, scales, textRoom, listed}
@@ -36,10 +37,13 @@ unfolding listed
 too-short s t h = rw (lt-ltb (length t) textRoom h) (refl, sym (placed-none t 0))
 
 -- the first line in two halves
-pub first-done : (t u : List ℕ) (r : ℕ) (h : Header)
-    → Wrote t u 0 r (counts (h .points) (h .present) (h .grid .ni) (h .grid .nj) ++ scales (h .d .value) (h .scale .e .value) (h .scale .r) (h .packing .bits)) → Wrote t u 0 r (firstLine h)
+pub first-done : (t u : List ℕ) (r : ℕ) (h : Header) (columns rows : ℕ) → columns ≡ columnsOn (h .grid .shape) → rows ≡ rowsOn (h .grid .shape)
+    → Wrote t u 0 r (counts (h .points) (h .present) columns rows ++ scales (h .d .value) (h .scale .e .value) (h .scale .r) (h .packing .bits)) → Wrote t u 0 r (firstLine h)
 unfolding firstLine line joinedTo
-first-done t u r h a = subst (λ (x : List ℕ). Wrote t u 0 r x) (simp append-assoc) a
+first-done t u r h columns rows ec er a =
+    subst (λ (x : List ℕ). Wrote t u 0 r x) (simp append-assoc)
+    (subst (λ (x : ℕ). Wrote t u 0 r (counts (h .points) (h .present) (columnsOn (h .grid .shape)) x ++ scales (h .d .value) (h .scale .e .value) (h .scale .r) (h .packing .bits))) er
+    (subst (λ (x : ℕ). Wrote t u 0 r (counts (h .points) (h .present) x rows ++ scales (h .d .value) (h .scale .e .value) (h .scale .r) (h .packing .bits))) ec a))
 
 -- a text with room
 roomy : (s t : List ℕ) → textRoom ≤ length t → listed s t ≡ listingOf s
@@ -56,16 +60,16 @@ unfolding joinedTo
 joined-ext v w zero e = refl
 joined-ext v w (suc n) e = ap₂ (λ (x y : List ℕ). x ++ y) (joined-ext v w n (λ j l. e j (omega arith))) (e n (omega arith))
 
-rows-ext : (f h : ℕ → ℕ) (x y : List ℕ) (g : Grid) → ((i : ℕ) → i < pointsOf g → f i ≡ h i) → ((i : ℕ) → i < pointsOf g → valueOf x i ≡ valueOf y i)
+rows-ext : (f h : ℕ → ℕ) (x y : List ℕ) (g : Shape) → ((i : ℕ) → i < pointsOn g → f i ≡ h i) → ((i : ℕ) → i < pointsOn g → valueOf x i ≡ valueOf y i)
     → rowLines f x g ≡ rowLines h y g
 unfolding rowLines rowLine line cell
 rows-ext f h x y g e d =
-    joined-ext (rowLine f x g) (rowLine h y g) (g .nj)
-    (λ r lr. joined-ext _ _ (g .ni)
+    joined-ext (rowLine f x g) (rowLine h y g) (rowsOn g)
+    (λ r lr. joined-ext _ _ (rowLong g r)
     (λ c lc.
-    let p = pointOf (g .ni) (g .nj) (g .scan) (record { row = r; column = c }) in
-    let l = point-lt (g .ni) (g .nj) (g .scan) (record { row = r; column = c }) lr lc in
-    ap₂ (λ (a b : ℕ). ended (cond (eqb a 1) (decimal b) (hyphen ∷ [])) (stop (g .ni) c)) (e p l) (d p l)))
+    let p = pointOn g (record { row = r; column = c }) in
+    let l = point-lt g (record { row = r; column = c }) lr lc in
+    ap₂ (λ (a b : ℕ). ended (cond (eqb a 1) (decimal b) (hyphen ∷ [])) (stop (rowLong g r) c)) (e p l) (d p l)))
 
 -- lists of as many elements
 same-room : (s : List ℕ) (lent : Lent) (a b c d : List ℕ) → length a ≡ length c → length b ≡ length d → readRefusal s lent a b ≡ readRefusal s lent c d
@@ -100,7 +104,7 @@ module _ (s a b : List ℕ) (h : Header) (size : length s ≤ listedMost) (la : 
 
   own : h .refusal ≡ listingRefusal s
   unfolding readOf answerBy foundIn foundBy
-  own = ap (λ (x : Header). x .refusal) e ∙ refusal-by (accepted (readRefusal s noStore a b)) (readRefusal s noStore a b) (foundIn s noStore) refl refl ∙ whole
+  own = ap (λ (x : Header). x .refusal) e ∙ refusal-by (accepted (readRefusal s noStore a b)) (readRefusal s noStore a b) (foundIn s noStore) refl (read-zero s noStore a b) refl ∙ whole
 
   pub refused-is : (t : List ℕ) → textRoom ≤ length t → (h .refusal .number ≡ 0 → ⊥) → listed s t ≡ refusedLine (refusal (h .refusal .number))
   unfolding listingOf
@@ -147,24 +151,21 @@ module _ (s a b : List ℕ) (h : Header) (size : length s ≤ listedMost) (la : 
       unfolding marksAfter filled
       marks-are = em ∙ rw taken
 
-      pub lists-fit : (pointsOf (h .grid) ≤ listedRoom) × ((listedRoom ≤ length v) × (listedRoom ≤ length m))
-      unfolding valuesIn scattered marksIn
+      pub lists-fit : (pointsOf (h .grid) ≤ listedRoom) × (listedRoom ≤ length v)
+      unfolding valuesIn scattered
       lists-fit =
           let n = few in (
             omega (arith, points-of),
-            (
-              rw values-are (simp (length-append, length-drop, length-tab) (omega arith)),
-              rw marks-are (simp (length-append, length-drop, length-tab) (omega arith)),
-            ),
+            rw values-are (simp (length-append, length-drop, length-tab) (omega arith)),
           )
 
-      pub listed-is : (t : List ℕ) → textRoom ≤ length t → listed s t ≡ firstLine h ++ rowLines (markOf m) v (h .grid)
+      pub listed-is : (t : List ℕ) → textRoom ≤ length t → listed s t ≡ firstLine h ++ rowLines (markOf m) v (h .grid .shape)
       unfolding listingOf
       listed-is t room =
-          let g = h .grid in
+          let g = h .grid .shape in
           let n = points-of in
           roomy s t room ∙ rw listing-taken
-          (ap (λ (x : Header). firstLine x ++ rowLines (presentIn s noStore) (valuesIn s noStore) (x .grid)) (sym said)
+          (ap (λ (x : Header). firstLine x ++ rowLines (presentIn s noStore) (valuesIn s noStore) (x .grid .shape)) (sym said)
           ∙ ap (λ (x : List ℕ). firstLine h ++ x)
           (rows-ext (presentIn s noStore) (markOf m) (valuesIn s noStore) v g
           (λ i l. sym (ap (λ (x : List ℕ). getD x i 0) marks-are ∙ List·getD-append (marksIn s noStore) _ 0 i (marks-long i (omega arith)) ∙ marks-at i (omega arith)))

@@ -20,6 +20,8 @@ use crate::text::letter;
 use crate::text::number;
 use crate::text::signed;
 use crate::text::word;
+use chart::columns_on;
+use chart::rows_on;
 use field::read;
 use rules::Header;
 use rules::Signed;
@@ -31,14 +33,14 @@ use rules::bounds::LISTED_ROOM;
 pub const TEXT_ROOM: usize = 45144;
 
 // Points, present, columns and rows, with the space after each.
-fn counts(text: &mut [u8], points: u32, present: u32, ni: u16, nj: u16) -> usize
+fn counts(text: &mut [u8], points: u32, present: u32, columns: u32, rows: u32) -> usize
     requires { ⌜ 44 ≤ length (now text) ⌝ }
-    ensures { λ r. ⌜ (Wrote (now (text .entry)) (now (text .exit)) 0 r (theCounts points present ni nj)) × (r ≤ 44) ⌝ }
+    ensures { λ r. ⌜ (Wrote (now (text .entry)) (now (text .exit)) 0 r (theCounts points present columns rows)) × (r ≤ 44) ⌝ }
 {
     let a = number(text, 0, points, b' ');
     let b = number(text, a, present, b' ');
-    let c = number(text, b, ni as u32, b' ');
-    number(text, c, nj as u32, b' ')
+    let c = number(text, b, columns, b' ');
+    number(text, c, rows, b' ')
 }
 
 // D, E, R and N, to the end of the line.
@@ -57,7 +59,8 @@ fn first_line(text: &mut [u8], h: Header) -> usize
     requires { ⌜ 88 ≤ length (now text) ⌝ }
     ensures { λ r. ⌜ (Wrote (now (text .entry)) (now (text .exit)) 0 r (firstLine h)) × (r ≤ 88) ⌝ }
 {
-    let half = counts(text, h.points, h.present, h.grid.ni, h.grid.nj);
+    let shape = h.grid.shape;
+    let half = counts(text, h.points, h.present, columns_on(shape), rows_on(shape));
     scales(text, half, h.d, h.scale.e, h.scale.r, h.packing.bits)
 }
 
@@ -76,11 +79,10 @@ fn lines(text: &mut [u8], h: Header, values: &[u32], marks: &[u8]) -> usize
     requires { ⌜ textRoom ≤ length (now text) ⌝ }
     requires { ⌜ pointsOf (h .grid) ≤ listedRoom ⌝ }
     requires { ⌜ listedRoom ≤ length (now values) ⌝ }
-    requires { ⌜ listedRoom ≤ length (now marks) ⌝ }
-    ensures { λ r. ⌜ (Wrote (now (text .entry)) (now (text .exit)) 0 r (firstLine h ++ rowLines (markOf (now (marks .entry))) (now (values .entry)) (h .grid))) × (r ≤ textRoom) ⌝ }
+    ensures { λ r. ⌜ (Wrote (now (text .entry)) (now (text .exit)) 0 r (firstLine h ++ rowLines (markOf (now (marks .entry))) (now (values .entry)) (h .grid .shape))) × (r ≤ textRoom) ⌝ }
 {
     let next = first_line(text, h);
-    rows(text, next, values, marks, h.grid)
+    rows(text, next, values, marks, h.grid.shape)
 }
 
 // Puts the listing of the octets s at the front of the text and answers its length; where the text has less than TEXT_ROOM octets it

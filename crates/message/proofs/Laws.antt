@@ -15,12 +15,13 @@ use Rattle.reply.proofs.Stages.{or-append, staged}
 use Rattle.rules.specs.Reading.{parsedOf, foundBy, inForceIn, presentIn, presentCount, packingIn, layoutRows, gridRows, dataRows, earlierRows, messageTable, refusedBy, foundIn, ownRefusal, answerBy, headerOf}
 
 -- the stages of rows 1 to 11
-pub stages : (s : List ℕ) (lent : Lent) (q : Parsed) (x y r : Refusal)
-    → x ≡ firstOr (dataRows s lent (q .places .bms) (q .bitmap) (q .points) (q .packing)) (refusal 0)
+pub stages : (s : List ℕ) (lent : Lent) (q : Parsed) (none x y r : Refusal) → none ≡ refusal 0
+    → x ≡ firstOr (dataRows s lent (q .places .bms) (q .bitmap) (q .points) (q .packing)) none
     → y ≡ firstOr (gridRows s (q .places) (q .found)) x → r ≡ firstOr (layoutRows s (q .places)) y → r ≡ first (earlierRows s lent q)
 unfolding first earlierRows
-stages s lent q x y r ex ey er =
-    er ∙ ap (firstOr (layoutRows s (q .places))) (ey ∙ ap (firstOr (gridRows s (q .places) (q .found))) ex)
+stages s lent q none x y r en ex ey er =
+    er ∙ ap (firstOr (layoutRows s (q .places)))
+    (ey ∙ ap (firstOr (gridRows s (q .places) (q .found))) (ex ∙ ap (firstOr (dataRows s lent (q .places .bms) (q .bitmap) (q .points) (q .packing))) en))
     ∙ ap (firstOr (layoutRows s (q .places))) (sym (or-append (gridRows s (q .places) (q .found)) (dataRows s lent (q .places .bms) (q .bitmap) (q .points) (q .packing)) (refusal 0)))
     ∙ sym (or-append (layoutRows s (q .places)) (gridRows s (q .places) (q .found) ++ dataRows s lent (q .places .bms) (q .bitmap) (q .points) (q .packing)) (refusal 0))
 

@@ -1,9 +1,8 @@
 -- What a header says of its message: where its refusal is 0, each field is the message's own; by the definition's two cases.
-use mathlib.Core.Path.{_≡_, refl, sym, ap, _∙_, subst}
+use mathlib.Core.Path.{_≡_, refl, sym, ap, _∙_}
 use mathlib.Core.Bool.{Bool, true, false, cond}
 use mathlib.Core.List.{List}
 use Prim.Native.Nat.{ℕ}
-use lib.Dec.{T, eqb→eq}
 use borrow.Author.Tests.{eq-eqb, ne-eqb}
 use Rattle.rules.specs.declared.{Refusal.Refusal, Header.Header}
 use Rattle.rules.specs.Table.{refusal, accepted}
@@ -11,17 +10,18 @@ use Rattle.rules.specs.Places.{placesOf}
 use Rattle.rules.specs.Grid.{theGrid}
 use Rattle.rules.specs.Bitmap.{Lent}
 use Rattle.rules.specs.Reading.{parsedOf, foundBy, foundIn, refusedBy, ownRefusal, answerBy, headerOf, gridOf, bitmapIn, pointsIn, presentCount, packingIn, scaleIn}
+use Rattle.laws.proofs.Judged.{own-zero}
 
 -- the refusal in a header is the message's own
-pub refusal-by : (b : Bool) (r : Refusal) (x : Header) → x .refusal ≡ refusal 0 → accepted r ≡ b → cond b x (refusedBy r) .refusal ≡ r
+pub refusal-by : (b : Bool) (r : Refusal) (x : Header) → x .refusal ≡ refusal 0 → (accepted r ≡ true → r ≡ refusal 0) → accepted r ≡ b → cond b x (refusedBy r) .refusal ≡ r
 unfolding refusedBy
-refusal-by true r x e h = let n : r .number ≡ 0 = eqb→eq (r .number) 0 (subst T (sym h) tt) in e ∙ ap refusal (sym n)
-refusal-by false r x e h = refl
+refusal-by true r x e z h = e ∙ sym (z h)
+refusal-by false r x e z h = refl
 
 module _ (s : List ℕ) (lent : Lent) (h : Header) (e : h ≡ headerOf s lent) where
   pub own : h .refusal ≡ ownRefusal s lent
   unfolding headerOf answerBy foundIn foundBy
-  own = ap (λ (x : Header). x .refusal) e ∙ refusal-by (accepted (ownRefusal s lent)) (ownRefusal s lent) (foundIn s lent) refl refl
+  own = ap (λ (x : Header). x .refusal) e ∙ refusal-by (accepted (ownRefusal s lent)) (ownRefusal s lent) (foundIn s lent) refl (own-zero s lent) refl
 
   pub refused : (h .refusal .number ≡ 0 → ⊥) → accepted (ownRefusal s lent) ≡ false
   refused z = ne-eqb _ _ (λ (q : ownRefusal s lent .number ≡ 0). z (ap (λ (x : Refusal). x .number) own ∙ q))

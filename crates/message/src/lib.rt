@@ -12,16 +12,17 @@ use grid::grid_in;
 use grid::grid_missing;
 use grid::points;
 use grid::the_grid;
+use octets::plain;
 use octets::signed_two;
 use places::PDS_START;
 use places::has_bitmap;
 use places::has_grid;
 use places::layout;
 use places::places;
+use reply::refusal;
 use reply::refuse;
 use rules::Bitmap;
 use rules::Found;
-use rules::Grid;
 use rules::Header;
 use rules::Moment;
 use rules::Packing;
@@ -30,7 +31,6 @@ use rules::Part;
 use rules::Places;
 use rules::Refusal;
 use rules::Scale;
-use rules::Signed;
 use time::moment_at;
 use values::length_bad;
 use values::packing_at;
@@ -74,7 +74,8 @@ pub fn refused(refusal: Refusal) -> Header
     ensures { λ r. ⌜ r ≡ refusedBy refusal ⌝ }
 {
     let none = Part { start: 0, len: 0 };
-    let zero = Signed { value: 0 };
+    let zero = plain(0);
+    let grid = the_grid(Found::Nothing);
     Header {
         refusal,
         places: Places {
@@ -91,18 +92,7 @@ pub fn refused(refusal: Refusal) -> Header
             minute: 0,
         },
         d: zero,
-        grid: Grid {
-            ni: 0,
-            nj: 0,
-            la1: zero,
-            lo1: zero,
-            flags: 0,
-            la2: zero,
-            lo2: zero,
-            di: 0,
-            dj: 0,
-            scan: 0,
-        },
+        grid,
         points: 0,
         bitmap: Bitmap::Without,
         present: 0,
@@ -133,7 +123,7 @@ fn parse(s: &[u8]) -> Parsed
 fn judge(s: &[u8], number: u16, store: &[u8], q: Parsed) -> Refusal
     ensures { λ r. ⌜ r ≡ first (earlierRows (now (s .entry)) (record { number = number; octets = now (store .entry) }) q) ⌝ }
 {
-    let none = Refusal { number: 0 };
+    let none = refusal(0);
     let places = q.places;
     let found = q.found;
     let bitmap = q.bitmap;
@@ -159,7 +149,7 @@ fn taken(s: &[u8], q: Parsed, m: u32) -> Header
     let bitmap = q.bitmap;
     let packing = q.packing;
     Header {
-        refusal: Refusal { number: 0 },
+        refusal: refusal(0),
         places,
         time: moment_at(s, PDS_START),
         d: signed_two(s, PDS_START, 27),
@@ -185,7 +175,7 @@ pub fn header(s: &[u8], number: u16, store: &[u8]) -> Header
     let bitmap = q.bitmap;
     let m = present(s, store, places.bms, bitmap, q.points);
     if length_bad(s, places.bds, m, q.packing) {
-        return refused(Refusal { number: 12 });
+        return refused(refusal(12));
     }
     taken(s, q, m)
 }

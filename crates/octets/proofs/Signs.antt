@@ -10,7 +10,8 @@ use lib.IntN.{ℤ, pos, negsuc, negℤ, natAbs, _-ℤ_, +ℤ-idl}
 use lib.Signed.{mag, ltZ}
 use mathlib.Core.Logic.{⊎-elim}
 use Rattle.bits.proofs.Runs.{lt-or-ge}
-use Rattle.rules.specs.Numbers.{sign, spelled}
+use Rattle.rules.specs.declared.{Signed.Signed}
+use Rattle.rules.specs.Numbers.{sign, plain, spelledValue}
 use mir.Syntax.{w32}
 use mir.Val.{SFits, toZ, ofZ}
 use mir.Facts.{toZ-ofZ, toZ-pos}
@@ -32,6 +33,10 @@ neg-back m h = rw (neg-of m h) (toZ-ofZ (neg-fits m h))
 pub back : (half v b : ℕ) (r : ℤ) → v ≡ b → r ≡ cond (ltb v half) (pos v) (negℤ (pos (v - half))) → mag r < 2147483648
     → toZ w32 (ofZ w32 r) ≡ cond (ltb b half) (pos b) (negℤ (pos (b - half)))
 back half v b r e f h = toZ-ofZ (record { sfits = h }) ∙ f ∙ ap (λ (x : ℕ). cond (ltb x half) (pos x) (negℤ (pos (x - half)))) e
+
+-- a signed field of a number handed on in 32 bits
+pub kept : (z : ℤ) (r : Signed) → r ≡ plain (toZ w32 (ofZ w32 z)) → SFits w32 z → r ≡ plain z
+kept z r e h = e ∙ ap plain (toZ-ofZ h)
 
 pub low : (half v : ℕ) → v < half → half ≤ 2147483648 → toZ w32 v ≡ cond (ltb v half) (pos v) (negℤ (pos (v - half)))
 low half v h l = rw (lt-ltb v half h) (toZ-pos w32 (omega arith))
@@ -61,8 +66,8 @@ pub below-word : (z : ℤ) → SFits w32 z → ltZ z (pos 0) ≡ true → natAbs
 below-word z f t b = simp (toZ-ofZ f, below-zero z t) (toZ-pos w32 b)
 
 -- the spelling of a number whose magnitude leaves the sign bit free has c octets
-pub spelled-lt : (c : ℕ) (z : ℤ) → 0 < c → natAbs z < sign c → spelled c z < 2 ^ (c * 8)
-spelled-lt c z l h = subst (λ (y : ℕ). spelled c z < y) (twice c l) (by z h)
+pub spelled-lt : (c : ℕ) (z : ℤ) → 0 < c → natAbs z < sign c → spelledValue c z < 2 ^ (c * 8)
+spelled-lt c z l h = subst (λ (y : ℕ). spelledValue c z < y) (twice c l) (by z h)
   where
     twice : (c : ℕ) → 0 < c → sign c + sign c ≡ 2 ^ (c * 8)
     twice c l =
@@ -70,6 +75,6 @@ spelled-lt c z l h = subst (λ (y : ℕ). spelled c z < y) (twice c l) (by z h)
         let g : 2 ^ (8 * c - 1) * 2 ≡ sign c + sign c = omega arith in
         sym g ∙ sym (pow-suc 2 (8 * c - 1)) ∙ ap (λ (x : ℕ). 2 ^ x) (sym f)
 
-    by : (y : ℤ) → natAbs y < sign c → spelled c y < sign c + sign c
+    by : (y : ℤ) → natAbs y < sign c → spelledValue c y < sign c + sign c
     by (pos n) b = omega arith
     by (negsuc n) b = omega arith

@@ -5,6 +5,7 @@ pub use reading::at;
 pub use reading::four;
 pub use reading::octet;
 pub use reading::offset;
+pub use reading::plain;
 pub use reading::signed_three;
 pub use reading::signed_two;
 pub use reading::three;

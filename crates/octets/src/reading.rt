@@ -3,7 +3,7 @@ ghost use mathlib.Core.Path.{_≡_};
 ghost use Prim.Native.Nat.{_+_, _-_, _*_, _<_, _≤_};
 ghost use lib.ListN.{getD};
 ghost use Rattle.bits.specs.Bits.{run, bitsIn};
-ghost use Rattle.rules.specs.Numbers.{octet as theOctet, signed as theSigned};
+ghost use Rattle.rules.specs.Numbers.{octet as theOctet, plain as thePlain, signed as theSigned};
 ghost use mathlib.Core.Bool.{cond};
 ghost use lib.Dec.{ltb};
 ghost use lib.IntN.{pos, negℤ};
@@ -72,20 +72,23 @@ fn signed(half: u32, v: u32) -> i32
     -((v - half) as i32)
 }
 
+// The signed field of a value.
+pub fn plain(value: i32) -> Signed
+    ensures { λ r. ⌜ r ≡ thePlain value ⌝ }
+{
+    Signed { value }
+}
+
 // The signed field in octets k and k + 1.
 pub fn signed_two(s: &[u8], p: usize, k: u8) -> Signed
     ensures { λ r. ⌜ r ≡ theSigned 2 (run (bitsIn 8 (now (s .entry))) ((p + (k - 1)) * 8) 16) ⌝ }
 {
-    Signed {
-        value: signed(32768, two(s, p, k) as u32),
-    }
+    plain(signed(32768, two(s, p, k) as u32))
 }
 
 // The signed field in octets k to k + 2.
 pub fn signed_three(s: &[u8], p: usize, k: u8) -> Signed
     ensures { λ r. ⌜ r ≡ theSigned 3 (run (bitsIn 8 (now (s .entry))) ((p + (k - 1)) * 8) 24) ⌝ }
 {
-    Signed {
-        value: signed(8388608, three(s, p, k)),
-    }
+    plain(signed(8388608, three(s, p, k)))
 }

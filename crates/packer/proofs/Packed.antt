@@ -13,9 +13,9 @@ use mir.Syntax.{w32}
 use mir.Val.{SFits, toZ, ofZ}
 use mir.Facts.{toZ-ofZ}
 use lib.ListN.{length, getD}
-use Rattle.rules.specs.declared.{Refusal.Refusal, Form.Form, Packing.Packing, Scale.Scale, Written.Written}
+use Rattle.rules.specs.declared.{Refusal.Refusal, Form.Form, Packing.Packing, Scale.Scale, Signed.Signed, Written.Written}
 use Rattle.rules.specs.Bounds.{sourceMost, stepMost}
-use Rattle.rules.specs.Numbers.{beyond}
+use Rattle.rules.specs.Numbers.{plain, beyond}
 use Rattle.rules.specs.Table.{Row, row, refusal, first, firstOr, filled}
 use Rattle.rules.specs.Bitmap.{Lent, markOf}
 use Rattle.rules.specs.Writing.{Parts, message, writeTable, writeRefusal, writeOf, outputAfter, lengthOf}
@@ -106,15 +106,15 @@ module _ (pds : List ℕ) (form : Form) (number : ℕ) (store : List ℕ) (numbe
               (λ i k. point-scaled bits (markOf marks i) (stepped e (natAbs (getD numbers i (pos 0) -ℤ ρ))) _ (ok .marks i k) (scaled-at numbers marks ρ e i k)
               (λ h. subst (λ (x : ℕ). x < 2 ^ bits) (ap₂ (λ (a : ℕ) (b : ℤ). stepped a (natAbs (getD numbers i (pos 0) -ℤ b))) (sym ee) (sym eρ)) (step-fits f bits (subst (λ (x : ℕ). x ≤ stepMost) ee l) i k h)))
 
-          same : (scale : Scale) → scale .e .value ≡ pos e → scale .r ≡ spellingFrom ρ → parts pds form scale number store (scaledFrom numbers marks ρ e) marks ≡ packed pds form lent f
+          same : (scale : Scale) → scale .e ≡ plain (pos e) → scale .r ≡ spellingFrom ρ → parts pds form scale number store (scaledFrom numbers marks ρ e) marks ≡ packed pds form lent f
           unfolding packed packedAt above scaledFrom spellingFrom
           same scale p q =
               let b : beyond sourceMost ρ ≡ false = subst (λ (x : ℤ). beyond sourceMost x ≡ false) (sym eρ) (beyond-no sourceMost (reference f) (reference-most f formed)) in
               let s : scale .r ≡ spellingOf (reference f) = q ∙ ap (λ (t : Bool). cond t 0 (spellingOf ρ)) b ∙ ap spellingOf eρ in
-              ap₂ {C = Parts} (λ (x : ℤ) (y : ℕ). parts pds form (record { e = record { value = x }; r = y }) number store (scaledFrom numbers marks ρ e) marks) (p ∙ ap pos ee) s
-              ∙ ap₂ {C = Parts} (λ (x : ℤ) (y : ℕ). parts pds form (record { e = record { value = pos (exponent f bits) }; r = spellingOf (reference f) }) number store (scaledFrom numbers marks x y) marks) eρ ee
+              ap₂ {C = Parts} (λ (x : Signed) (y : ℕ). parts pds form (record { e = x; r = y }) number store (scaledFrom numbers marks ρ e) marks) (p ∙ ap (λ (x : ℕ). plain (pos x)) ee) s
+              ∙ ap₂ {C = Parts} (λ (x : ℤ) (y : ℕ). parts pds form (record { e = plain (pos (exponent f bits)); r = spellingOf (reference f) }) number store (scaledFrom numbers marks x y) marks) eρ ee
 
-          pub pack-done : (scale : Scale) → scale .e .value ≡ pos e → scale .r ≡ spellingFrom ρ → (w : Written) → w ≡ writeOf (parts pds form scale number store (scaledFrom numbers marks ρ e) marks) out
+          pub pack-done : (scale : Scale) → scale .e ≡ plain (pos e) → scale .r ≡ spellingFrom ρ → (w : Written) → w ≡ writeOf (parts pds form scale number store (scaledFrom numbers marks ρ e) marks) out
               → (o : List ℕ) → o ≡ outputAfter (parts pds form scale number store (scaledFrom numbers marks ρ e) marks) out → (w ≡ packOf pds form lent f out) × (o ≡ packedAfter pds form lent f out)
           unfolding packOf packedAfter writeOf outputAfter writeRefusal first firstOr
           pack-done scale p q w ew o eo =

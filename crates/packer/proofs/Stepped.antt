@@ -1,19 +1,23 @@
--- The list of X, point by point; and the packer's first rows.
+-- The list of X, point by point, and where every point is present; and the packer's first rows.
 use mathlib.Core.Path.{_≡_, sym, ap, ap₂, _∙_, subst}
 use mathlib.Core.Bool.{Bool, cond}
 use mathlib.Core.List.{List}
-use Prim.Native.Nat.{ℕ, _+_, _-_, _*_, _/_, _%_, _^_, _≤_, _<_}
+use mathlib.Core.Logic.{⊎-elim}
+use Prim.Native.Nat.{ℕ, zero, suc, _+_, _^_, _<_}
+use native.Mathlib.Nat.{zero-add, eq-or-lt-of-le, le-of-suc-le-suc, not-suc-le-zero}
 use native.Mathlib.Omega.{arith}
 use lib.IntN.{ℤ, pos, natAbs, _-ℤ_}
 use lib.Signed.{mag}
 use lib.ListN.{length, getD}
 use mir.Syntax.{w32}
-use mir.Val.{SFits, toZ, ofZ}
+use mir.Val.{toZ, ofZ}
 use mir.Facts.{toZ-ofZ}
-use borrow.Author.Tests.{eq-eqb, ne-eqb}
-use Rattle.bits.specs.Bits.{numberAt}
+use borrow.Author.Tests.{eq-eqb}
+use Rattle.bits.specs.Bits.{count, packedInto}
+use Rattle.bits.specs.Tables.{tab}
 use Rattle.bits.proofs.Runs.{Bits}
-use Rattle.bits.proofs.Fill.{length-tab, getD-tab}
+use Rattle.bits.proofs.Fill.{length-tab, getD-tab, tab-ext, tab-of}
+use Rattle.bits.proofs.Ones.{count-le}
 use Rattle.rules.specs.declared.{Refusal.Refusal, Signed.Signed, Packing.Packing}
 use Rattle.rules.specs.Numbers.{decimalAt}
 use Rattle.rules.specs.Table.{refusal, anyOf, first, firstOr}
@@ -23,19 +27,20 @@ use Rattle.rules.specs.Values.{packingFaults}
 use Rattle.rules.specs.Writing.{pdsFaults}
 use Rattle.rules.specs.Checking.{sourceFaults, decimalDiffers}
 use Rattle.writable.specs.Listed.{Listed}
-use Rattle.sections.specs.Filling.{Filled}
+use Rattle.sections.proofs.Gathered.{gathered-all}
 use Rattle.rules.specs.Packing.{stepped}
 use Rattle.packer.specs.Scaled.{scaledBy, scaledFrom, sourceRows}
-use Rattle.sections.proofs.Filling.{Reached, reached-more}
+use Rattle.steps.specs.Steps.{stepOf}
 
--- X at a point
-pub scaled-here : (v : ℤ) (mark : ℕ) (r : ℤ) (e : ℕ) → SFits w32 v → SFits w32 r → mark ≡ 1 → (a : ℕ) → a ≡ natAbs (toZ w32 (ofZ w32 v) -ℤ toZ w32 (ofZ w32 r)) → (x : ℕ) → x ≡ stepped e a → x ≡ scaledBy v mark r e
-scaled-here v mark r e f g h a ea x ex =
-    ex ∙ ap (stepped e) (ea ∙ ap₂ (λ (y z : ℤ). natAbs (y -ℤ z)) (toZ-ofZ f) (toZ-ofZ g))
-    ∙ ap (λ (t : Bool). cond t (stepped e (natAbs (v -ℤ r))) 0) (sym (eq-eqb mark 1 h))
-
-pub scaled-away : (v : ℤ) (mark : ℕ) (r : ℤ) (e : ℕ) → (mark ≡ 1 → ⊥) → 0 ≡ scaledBy v mark r e
-scaled-away v mark r e h = rw (ne-eqb mark 1 h)
+-- with as many ones as points each point is one
+ones-all : (f : ℕ → ℕ) → Bits f → (n : ℕ) → count f 0 n ≡ n → (i : ℕ) → i < n → f i ≡ 1
+unfolding count
+ones-all f b zero e i l = absurd (not-suc-le-zero l)
+ones-all f b (suc n) e i l =
+    let h : f (0 + n) < 2 = b (0 + n) in
+    let k = count-le b 0 n in
+    let z : f n ≡ 1 = ap f (sym (zero-add n)) ∙ omega arith in
+    ⊎-elim (λ p. ap f p ∙ z) (λ q. ones-all f b n (omega arith) i q) (eq-or-lt-of-le (le-of-suc-le-suc l))
 
 module _ (numbers : List ℤ) (marks : List ℕ) (r : ℤ) (e : ℕ) where
   pub length-scaled : length (scaledFrom numbers marks r e) ≡ length numbers
@@ -46,15 +51,27 @@ module _ (numbers : List ℤ) (marks : List ℕ) (r : ℤ) (e : ℕ) where
   unfolding scaledFrom
   scaled-at i l = getD-tab (λ k. scaledBy (getD numbers k (pos 0)) (markOf marks k) r e) (length numbers) i 0 l
 
-  module _ (bits : ℕ) (p : Listed (scaledFrom numbers marks r e) marks bits) where
-    pub numbers-long : length numbers ≡ length marks
-    numbers-long = sym length-scaled ∙ p .same
+  -- at a present point
+  pub scaled-present : (i : ℕ) → i < length numbers → markOf marks i ≡ 1 → stepOf numbers r e i ≡ valueOf (scaledFrom numbers marks r e) i
+  unfolding stepOf
+  scaled-present i l h =
+      sym (scaled-at i l ∙ ap (λ (t : Bool). cond t (stepped e (natAbs (getD numbers i (pos 0) -ℤ r))) 0) (eq-eqb (markOf marks i) 1 h))
 
-    pub put-at : (i : ℕ) → i < length marks → mag (getD numbers i (pos 0)) < 2 ^ 31 → (x : ℕ)
-        → x ≡ scaledBy (toZ w32 (ofZ w32 (getD numbers i (pos 0)))) (getD marks i 0) r e → x ≡ valueOf (scaledFrom numbers marks r e) i
-    put-at i l f x h =
-        let m = numbers-long in
-        h ∙ ap (λ (a : ℤ). scaledBy a (getD marks i 0) r e) (toZ-ofZ {w = w32} {z = getD numbers i (pos 0)} (record { sfits = f })) ∙ sym (scaled-at i (omega arith))
+  -- where every point is present, the list is that of all X
+  module _ (bits : ℕ) (p : Listed (scaledFrom numbers marks r e) marks bits) (all : length numbers ≡ count (markOf marks) 0 (length numbers)) where
+    scaled-all : tab (valueOf (scaledFrom numbers marks r e)) (length numbers) ≡ scaledFrom numbers marks r e
+    scaled-all = ap (tab (valueOf (scaledFrom numbers marks r e))) (sym length-scaled) ∙ tab-of (scaledFrom numbers marks r e) 0
+
+    steps-all : tab (stepOf numbers r e) (length numbers) ≡ scaledFrom numbers marks r e
+    steps-all =
+        tab-ext (stepOf numbers r e) (valueOf (scaledFrom numbers marks r e)) (length numbers) (λ i l. scaled-present i l (ones-all (markOf marks) (p .mark) (length numbers) (sym all) i l))
+        ∙ scaled-all
+
+    pub every-wide : (k : ℕ) → getD (tab (stepOf numbers r e) (length numbers)) k 0 < 2 ^ bits
+    every-wide k = subst (λ (x : List ℕ). getD x k 0 < 2 ^ bits) (sym steps-all) (p .value k)
+
+    pub every-is : tab (stepOf numbers r e) (length numbers) ≡ gathered (markOf marks) (valueOf (scaledFrom numbers marks r e)) (length numbers)
+    every-is = steps-all ∙ sym (gathered-all (markOf marks) (p .mark) (valueOf (scaledFrom numbers marks r e)) (length numbers) (sym all) ∙ scaled-all)
 
 -- R as code reads it back
 module _ (numbers : List ℤ) (marks : List ℕ) (r : ℤ) (e : ℕ) (h : mag r < 2 ^ 31) where
@@ -64,18 +81,9 @@ module _ (numbers : List ℤ) (marks : List ℕ) (r : ℤ) (e : ℕ) (h : mag r 
   pub listed-back : (bits : ℕ) → Listed (scaledFrom numbers marks r e) marks bits → Listed (scaledFrom numbers marks (toZ w32 (ofZ w32 r)) e) marks bits
   listed-back bits p = subst (λ (x : List ℕ). Listed x marks bits) (sym back) p
 
-  pub filled-back : (bits n : ℕ) (d o : List ℕ) → Filled bits (gathered (markOf marks) (valueOf (scaledFrom numbers marks (toZ w32 (ofZ w32 r)) e)) n) d o
-      → Filled bits (gathered (markOf marks) (valueOf (scaledFrom numbers marks r e)) n) d o
-  filled-back bits n d o p = subst (λ (x : List ℕ). Filled bits (gathered (markOf marks) (valueOf x) n) d o) back p
-
--- a point put whose value is computed where it is put
-module _ (f v : ℕ → ℕ) (b : Bits f) (n : ℕ) (w : (i : ℕ) → v i < 2 ^ n) (l : n ≤ 24) (d : List ℕ) (i : ℕ) (o : List ℕ) (all q : ℕ) (r : Reached f v n d i o all q) where
-  pub reached-by : (x : ℕ) → x ≡ v i → (f i ≡ 0 → v i ≡ 0) → (s : ℕ) → s ≡ n * f i → (o' : List ℕ) → length o' ≡ length o
-      → o' ≡ numberAt o (q / 8) 4 ((all * 2 ^ s % 2 ^ 64 + x) * 2 ^ (32 - q % 8 - s) % 2 ^ 64 % 4294967296)
-      → Reached f v n d (i + 1) o' (all * 2 ^ s % 2 ^ 64 + x) (q + s)
-  reached-by x e z s h o' k g =
-      subst (λ (y : ℕ). Reached f v n d (i + 1) o' (all * 2 ^ s % 2 ^ 64 + y) (q + s)) (sym e)
-      (reached-more f v b n w l d i o all q r z s h o' k (subst (λ (y : ℕ). o' ≡ numberAt o (q / 8) 4 ((all * 2 ^ s % 2 ^ 64 + y) * 2 ^ (32 - q % 8 - s) % 2 ^ 64 % 4294967296)) e g))
+  pub packed-back : (bits n : ℕ) (d : List ℕ) → packedInto bits (gathered (markOf marks) (valueOf (scaledFrom numbers marks (toZ w32 (ofZ w32 r)) e)) n) d
+      ≡ packedInto bits (gathered (markOf marks) (valueOf (scaledFrom numbers marks r e)) n) d
+  packed-back bits n d = ap (λ (x : List ℕ). packedInto bits (gathered (markOf marks) (valueOf x) n) d) back
 
 -- 5, 18, 15 and 11, one under another
 pub judged-source : (pds : List ℕ) (packing : Packing) (numbers : List ℤ) (marks : List ℕ) (d d' : ℤ) → d' ≡ d → (own : Signed) → own ≡ decimalAt pds 0 → (k : ℤ) → k ≡ own .value

@@ -1,7 +1,2 @@
-pub mod Over
-pub mod Small
-pub mod Fits
 pub mod Puts
-pub mod Bits
-pub mod Lists
 pub mod Contracts

@@ -3,10 +3,10 @@ use Prim.Native.Nat.{ℕ, _+_, _-_, _*_, _^_}
 use mathlib.Core.List.{List}
 use mathlib.Core.Bool.{Bool, cond, _&&_}
 use lib.Dec.{leb, ltb}
-use lib.IntN.{ℤ, natAbs}
 use lib.ListN.{length}
-use Rattle.bits.specs.Bits.{octetsFor, numberAt, putAt}
-use Rattle.rules.specs.Numbers.{sign, spelled}
+use Rattle.bits.specs.Bits.{numberAt}
+use Rattle.rules.specs.declared.{Signed.Signed}
+use Rattle.rules.specs.Numbers.{magnitudeFits, spelled}
 
 -- c octets from octet k on, counted from 1, of what starts at place p lie inside
 abbrev pub roomAt : List ℕ → ℕ → ℕ → ℕ → Bool
@@ -20,15 +20,8 @@ unfoldable pub putNumber : List ℕ → ℕ → ℕ → ℕ → ℕ → List ℕ
 putNumber out p k c x = cond (putFits out p k c x) (numberAt out (p + (k - 1)) c x) out
 
 -- a signed number of c octets: its magnitude leaves the sign bit free
-unfoldable pub signedFits : List ℕ → ℕ → ℕ → ℕ → ℤ → Bool
-signedFits out p k c z = roomAt out p k c && ltb (natAbs z) (sign c)
+unfoldable pub signedFits : List ℕ → ℕ → ℕ → ℕ → Signed → Bool
+signedFits out p k c z = roomAt out p k c && magnitudeFits c z
 
-unfoldable pub putSigned : List ℕ → ℕ → ℕ → ℕ → ℤ → List ℕ
+unfoldable pub putSigned : List ℕ → ℕ → ℕ → ℕ → Signed → List ℕ
 putSigned out p k c z = cond (signedFits out p k c z) (numberAt out (p + (k - 1)) c (spelled c z)) out
-
--- n bits at bit place at
-unfoldable pub bitsFit : ℕ → ℕ → ℕ → ℕ → Bool
-bitsFit room at n v = leb n 32 && ltb v (2 ^ n) && leb (octetsFor (at + n)) room
-
-unfoldable pub putBits : List ℕ → ℕ → ℕ → ℕ → List ℕ
-putBits out at n v = cond (bitsFit (length out) at n v) (putAt out at n v) out

@@ -1,6 +1,7 @@
 // What was read, written again: whether the message's own octets come back.
 ghost use Prim.Native.Nat.{_≤_};
 ghost use lib.ListN.{length};
+use crate::MESSAGE;
 use crate::line::number;
 use crate::line::whole;
 use crate::line::word;
@@ -8,7 +9,6 @@ use rules::Form;
 use rules::Found;
 use rules::Header;
 use rules::Written;
-use rules::bounds::MESSAGE_MOST;
 
 // How many octets from the first on are the same in both.
 fn alike(a: &[u8], b: &[u8]) -> usize
@@ -87,7 +87,30 @@ fn tell(w: Written, s: &[u8], out: &[u8]) {
     }
 }
 
-// Writes what was read of s with the same bitmap lent, and compares.
+// Writes what was read of s with the same bitmap lent.
+fn written(
+    s: &[u8],
+    lent: u16,
+    store: &[u8],
+    h: Header,
+    values: &[u32],
+    marks: &[u8],
+    out: &mut [u8],
+) -> Written {
+    let n = h.points as usize;
+    writer::write(
+        parts::section(s, lent, store, 1),
+        own_form(h),
+        h.scale,
+        lent,
+        store,
+        values_part(values, 0, n),
+        octets_part(marks, 0, n),
+        out,
+    )
+}
+
+// The same, and compares.
 pub(crate) fn write_again(
     s: &[u8],
     lent: u16,
@@ -96,17 +119,7 @@ pub(crate) fn write_again(
     values: &[u32],
     marks: &[u8],
 ) {
-    let mut out = [0u8; MESSAGE_MOST];
-    let n = h.points as usize;
-    let w = writer::write(
-        parts::section(s, lent, store, 1),
-        own_form(h),
-        h.scale,
-        lent,
-        store,
-        values_part(values, 0, n),
-        octets_part(marks, 0, n),
-        &mut out,
-    );
+    let mut out = [0u8; MESSAGE];
+    let w = written(s, lent, store, h, values, marks, &mut out);
     tell(w, s, &out);
 }

@@ -10,11 +10,13 @@ use chart::spot_of;
 use libc::STDOUT_FILENO;
 use rules::Bitmap;
 use rules::Charted;
+use rules::Geometry;
 use rules::Grid;
 use rules::GridPoint;
 use rules::Header;
 use rules::Moment;
 use rules::Part;
+use rules::Shape;
 use rules::Signed;
 
 pub(crate) fn word(text: &[u8]) {
@@ -72,19 +74,18 @@ fn moment(t: Moment) {
     number(t.minute as u64);
 }
 
-fn corners(g: Grid) {
-    signed(g.la1);
-    signed(g.lo1);
-    number(g.flags as u64);
-    signed(g.la2);
-    signed(g.lo2);
-    number(g.di as u64);
-    number(g.dj as u64);
-    number(g.scan as u64);
+fn corners(a: Geometry) {
+    signed(a.la1);
+    signed(a.lo1);
+    number(a.flags as u64);
+    signed(a.la2);
+    signed(a.lo2);
+    number(a.di as u64);
+    number(a.dj as u64);
 }
 
-fn spot(g: Grid, k: u32) {
-    let s = spot_of(g.ni, g.nj, g.scan, GridPoint(k));
+fn spot(g: Shape, k: u32) {
+    let s = spot_of(g, GridPoint(k));
     match s {
         Charted::On(at) => {
             number(at.row as u64);
@@ -111,7 +112,7 @@ fn sum(values: &[u32], marks: &[u8], n: usize) {
 }
 
 fn taken(h: Header, values: &[u32], marks: &[u8]) {
-    let g = h.grid;
+    let g = h.grid.shape;
     let bitmap = h.bitmap;
     whole(h.points);
     whole(h.present);
@@ -124,7 +125,8 @@ fn taken(h: Header, values: &[u32], marks: &[u8]) {
     octet(h.packing.flags);
     kind(bitmap);
     moment(h.time);
-    corners(g);
+    corners(h.grid.geometry);
+    number(g.scan as u64);
     spot(g, 0);
     spot(g, 1);
     let n = h.points as usize;
@@ -140,17 +142,22 @@ fn no_time(t: Moment) -> bool {
     (t.year == 0) & (t.month == 0) & (t.day == 0) & (t.hour == 0) & (t.minute == 0)
 }
 
+fn no_shape(g: Shape) -> bool {
+    (g.ni == 0) & (g.nj == 0) & (g.scan == 0)
+}
+
+fn no_geometry(a: Geometry) -> bool {
+    (a.la1.value == 0)
+        & (a.lo1.value == 0)
+        & (a.flags == 0)
+        & (a.la2.value == 0)
+        & (a.lo2.value == 0)
+        & (a.di == 0)
+        & (a.dj == 0)
+}
+
 fn no_grid(g: Grid) -> bool {
-    (g.ni == 0)
-        & (g.nj == 0)
-        & (g.la1.value == 0)
-        & (g.lo1.value == 0)
-        & (g.flags == 0)
-        & (g.la2.value == 0)
-        & (g.lo2.value == 0)
-        & (g.di == 0)
-        & (g.dj == 0)
-        & (g.scan == 0)
+    no_shape(g.shape) & no_geometry(g.geometry)
 }
 
 fn no_bitmap(bitmap: Bitmap) -> bool {

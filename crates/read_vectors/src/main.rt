@@ -13,18 +13,16 @@ use crate::line::answer;
 use crate::lists::fill_marks;
 use crate::lists::fill_values;
 use rules::Header;
-use rules::bounds::MESSAGE_MOST;
-use rules::bounds::POINTS_MOST;
 
 const HEAD: usize = 20;
 
-// The octets of a bitmap of all points, and one more.
-const STORE: usize = POINTS_MOST as usize / 8 + 1;
+// The room of this program's own lists, enough for its vectors: octets of a message, octets of a lent bitmap, points. The codec's bounds are
+// others: where they grow, the stack that this program takes does not.
+pub(crate) const MESSAGE: usize = 262145;
 
-// One octet and one element more than a message may have.
-const MESSAGE: usize = MESSAGE_MOST + 1;
+const STORE: usize = 8193;
 
-const ROOM: usize = POINTS_MOST as usize + 1;
+const POINTS: usize = 65537;
 
 // Reads the file on into the places of the room from one up to another, where the room has them.
 fn load(fd: i32, room: &mut [u8], from: usize, to: usize) {
@@ -69,8 +67,8 @@ fn judge_lists(
 }
 
 fn judge_octets(s: &[u8], len: usize, number: u16, store: &[u8], held: usize, v: usize, m: usize) {
-    let mut values = [0u32; ROOM];
-    let mut marks = [0u8; ROOM];
+    let mut values = [0u32; POINTS];
+    let mut marks = [0u8; POINTS];
     if len <= s.len() {
         if held <= store.len() {
             judge_lists(
@@ -90,25 +88,33 @@ fn size(head: &[u8], k: u8) -> usize {
     octets::three(head, 0, k) as usize
 }
 
-fn run_vector(fd: i32) {
-    let mut head = [0u8; HEAD];
-    let mut store = [0u8; STORE];
+fn run_message(fd: i32, head: &[u8], store: &[u8], held: usize) {
     let mut message = [0u8; MESSAGE];
-    load(fd, &mut head, 0, HEAD);
-    let held = size(&head, 3);
-    let len = size(&head, 6);
-    load(fd, &mut store, 0, held);
-    load(fd, &mut message, 0, size(&head, 9));
-    load(fd, &mut message, size(&head, 12), len);
+    let len = size(head, 6);
+    load(fd, &mut message, 0, size(head, 9));
+    load(fd, &mut message, size(head, 12), len);
     judge_octets(
         &message,
         len,
-        octets::two(&head, 0, 1),
-        &store,
+        octets::two(head, 0, 1),
+        store,
         held,
-        size(&head, 15),
-        size(&head, 18),
+        size(head, 15),
+        size(head, 18),
     );
+}
+
+fn run_store(fd: i32, head: &[u8]) {
+    let mut store = [0u8; STORE];
+    let held = size(head, 3);
+    load(fd, &mut store, 0, held);
+    run_message(fd, head, &store, held);
+}
+
+fn run_vector(fd: i32) {
+    let mut head = [0u8; HEAD];
+    load(fd, &mut head, 0, HEAD);
+    run_store(fd, &head);
 }
 
 fn open_vector(i: usize) {

@@ -5,7 +5,9 @@ use mathlib.Core.Path.{_≡_}
 use mathlib.Core.Bool.{true, cond}
 use mathlib.Core.List.{List}
 use lib.Dec.{eqb}
-use Rattle.rules.specs.declared.{Grid.Grid, Found.Found, Found.the-variants.Nothing, Found.the-variants.Given, Bitmap.Bitmap, Bitmap.the-variants.Without, Bitmap.the-variants.Carried, Bitmap.the-variants.Stored, Form.Form}
+use lib.IntN.{ℤ}
+use Rattle.rules.specs.declared.{Grid.Grid, Found.Found, Found.the-variants.Nothing, Found.the-variants.Given, Bitmap.Bitmap, Bitmap.the-variants.Without, Bitmap.the-variants.Carried, Bitmap.the-variants.Stored, Form.Form, Scale.Scale}
+use Rattle.rules.specs.Numbers.{plain}
 use Rattle.rules.specs.Table.{anyOf}
 use Rattle.rules.specs.Grid.{noGrid, theGrid, gridFaults}
 use Rattle.rules.specs.Bitmap.{Lent}
@@ -16,16 +18,8 @@ use Rattle.records.specs.Records.{bitmapKind, bitmapNumber, gridRecord}
 
 abbrev pub gridBack : GridRecord → Grid
 gridBack g = record {
-  ni = g .ni;
-  nj = g .nj;
-  la1 = record { value = g .la1 };
-  lo1 = record { value = g .lo1 };
-  flags = g .flags;
-  la2 = record { value = g .la2 };
-  lo2 = record { value = g .lo2 };
-  di = g .di;
-  dj = g .dj;
-  scan = g .scan;
+  shape = record { ni = g .ni; nj = g .nj; scan = g .scan };
+  geometry = record { la1 = plain (g .la1); lo1 = plain (g .lo1); flags = g .flags; la2 = plain (g .la2); lo2 = plain (g .lo2); di = g .di; dj = g .dj };
 }
 
 -- 0 no grid, 1 the one in the record, any other number a grid of zeros, which 9 refuses
@@ -38,6 +32,10 @@ bitmapBy kind number = cond (eqb kind 0) Without (cond (eqb kind 1) Carried (con
 
 abbrev pub formBy : FormRecord → Form
 formBy f = record { grid = gridBy (f .given) (f .grid); bitmap = bitmapBy (f .bitmap) (f .number); packing = record { flags = f .flags; bits = f .bits } }
+
+-- E and R
+abbrev pub scaleBy : ℤ → ℕ → Scale
+scaleBy e r = record { e = plain e; r = r }
 
 -- a kind that has no name is refused by the writer's and the packer's own row
 abbrev pub UnknownGrid : Type 0

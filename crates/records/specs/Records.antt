@@ -3,9 +3,7 @@
 use Prim.Native.Nat.{ℕ}
 use mathlib.Core.Bool.{Bool, false, cond}
 use Rattle.rules.specs.declared.{Refusal.Refusal, Written.Written, Display.Display, Part.Part, Grid.Grid, Bitmap.Bitmap, Bitmap.the-variants.Without, Bitmap.the-variants.Carried, Bitmap.the-variants.Stored, Header.Header, Charted.Charted, Charted.the-variants.On, Charted.the-variants.Off, Pointed.Pointed, Pointed.the-variants.At, Pointed.the-variants.Off as Nowhere}
-use Rattle.rules.specs.Bitmap.{InForce}
-use Rattle.rules.specs.Points.{Numbering, numbered, absent, outside}
-use Rattle.records.specs.declared.{PartRecord.PartRecord, GridRecord.GridRecord, HeaderRecord.HeaderRecord, PlaceRecord.PlaceRecord, PointRecord.PointRecord, DataRecord.DataRecord, DisplayRecord.DisplayRecord, WrittenRecord.WrittenRecord, CheckRecord.CheckRecord}
+use Rattle.records.specs.declared.{PartRecord.PartRecord, GridRecord.GridRecord, HeaderRecord.HeaderRecord, PlaceRecord.PlaceRecord, PointRecord.PointRecord, DisplayRecord.DisplayRecord, WrittenRecord.WrittenRecord, CheckRecord.CheckRecord}
 
 -- a bitmap's kind and, where it is a stored one, its number
 abbrev pub bitmapKind : Bitmap → ℕ
@@ -25,22 +23,21 @@ partBy stored p = record { stored = cond stored 1 0; start = p .start; len = p .
 abbrev pub partRecord : Part → PartRecord
 partRecord p = partBy false p
 
-abbrev pub forceRecord : InForce → PartRecord
-forceRecord f = partBy (f .stored) (f .part)
-
 abbrev pub gridRecord : Grid → GridRecord
-gridRecord g = record {
-  la1 = g .la1 .value;
-  lo1 = g .lo1 .value;
-  la2 = g .la2 .value;
-  lo2 = g .lo2 .value;
-  ni = g .ni;
-  nj = g .nj;
-  di = g .di;
-  dj = g .dj;
-  flags = g .flags;
-  scan = g .scan;
-}
+gridRecord g =
+    let a = g .geometry in
+    record {
+      la1 = a .la1 .value;
+      lo1 = a .lo1 .value;
+      la2 = a .la2 .value;
+      lo2 = a .lo2 .value;
+      ni = g .shape .ni;
+      nj = g .shape .nj;
+      di = a .di;
+      dj = a .dj;
+      flags = a .flags;
+      scan = g .shape .scan;
+    }
 
 abbrev pub headerRecord : Header → HeaderRecord
 headerRecord h = record {
@@ -75,12 +72,6 @@ placeRecord Off = record { on = 0; row = 0; column = 0 }
 abbrev pub pointRecord : Pointed → PointRecord
 pointRecord (At k) = record { on = 1; point = k .0 }
 pointRecord Nowhere = record { on = 0; point = 0 }
-
--- what is said of a grid point: 1 and its data number, 2 where it is absent, 0 where there is no such point
-abbrev pub dataRecord : Numbering → DataRecord
-dataRecord outside = record { kind = 0; number = 0 }
-dataRecord (numbered k) = record { kind = 1; number = k }
-dataRecord absent = record { kind = 2; number = 0 }
 
 abbrev pub displayRecord : Display → DisplayRecord
 displayRecord d = record { reply = d .refusal .number; reference = d .reference; step = d .step }

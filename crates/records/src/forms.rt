@@ -1,14 +1,17 @@
 // The record that comes in from C: what writer and packer are to choose. Any numbers in it stand for a form; a kind that has no name for one that the
 // writer refuses.
 ghost use mathlib.Core.Path.{_≡_};
-ghost use Rattle.records.specs.Forms.{gridBack, gridBy, bitmapBy, formBy};
+ghost use Rattle.records.specs.Forms.{gridBack, gridBy, bitmapBy, formBy, scaleBy};
 use crate::GridRecord;
+use octets::plain;
 use rules::Bitmap;
 use rules::Form;
 use rules::Found;
+use rules::Geometry;
 use rules::Grid;
 use rules::Packing;
-use rules::Signed;
+use rules::Scale;
+use rules::Shape;
 
 #[repr(C)]
 pub struct FormRecord {
@@ -24,16 +27,20 @@ fn grid_back(g: GridRecord) -> Grid
     ensures { λ r. ⌜ r ≡ gridBack g ⌝ }
 {
     Grid {
-        ni: g.ni,
-        nj: g.nj,
-        la1: Signed { value: g.la1 },
-        lo1: Signed { value: g.lo1 },
-        flags: g.flags,
-        la2: Signed { value: g.la2 },
-        lo2: Signed { value: g.lo2 },
-        di: g.di,
-        dj: g.dj,
-        scan: g.scan,
+        shape: Shape {
+            ni: g.ni,
+            nj: g.nj,
+            scan: g.scan,
+        },
+        geometry: Geometry {
+            la1: plain(g.la1),
+            lo1: plain(g.lo1),
+            flags: g.flags,
+            la2: plain(g.la2),
+            lo2: plain(g.lo2),
+            di: g.di,
+            dj: g.dj,
+        },
     }
 }
 
@@ -76,4 +83,11 @@ pub fn form_by(f: FormRecord) -> Form
             bits: f.bits,
         },
     }
+}
+
+// E and R, as the writer takes them.
+pub fn scale_by(e: i32, r: u32) -> Scale
+    ensures { λ s. ⌜ s ≡ scaleBy e r ⌝ }
+{
+    Scale { e: plain(e), r }
 }

@@ -1,15 +1,13 @@
 // The records that cross to C, by value and in its layout: those that go out, and how each is made of an answer; and, in forms.rt, the one that
 // comes in.
 ghost use mathlib.Core.Path.{_≡_};
-ghost use Rattle.points.specs.Told.{told};
-ghost use Rattle.records.specs.Records.{bitmapKind, bitmapNumber, partBy, partRecord, gridRecord, headerRecord, placeRecord, pointRecord, dataRecord, displayRecord, writtenRecord, checkRecord};
+ghost use Rattle.records.specs.Records.{bitmapKind, bitmapNumber, partRecord, gridRecord, headerRecord, placeRecord, pointRecord, displayRecord, writtenRecord, checkRecord};
 
 mod forms; // forms.rt: the record that comes in
 
 pub use forms::FormRecord;
 pub use forms::form_by;
-use parts::Force;
-use points::Numbered;
+pub use forms::scale_by;
 use rules::Bitmap;
 use rules::Charted;
 use rules::Display;
@@ -81,12 +79,6 @@ pub struct PointRecord {
 }
 
 #[repr(C)]
-pub struct DataRecord {
-    pub kind: u32,
-    pub number: u32,
-}
-
-#[repr(C)]
 pub struct DisplayRecord {
     pub reply: u32,
     pub reference: f64,
@@ -124,7 +116,7 @@ fn bitmap_number(bitmap: Bitmap) -> u16
     }
 }
 
-fn plain(z: Signed) -> i32
+fn value(z: Signed) -> i32
     ensures { λ r. ⌜ r ≡ z .value ⌝ }
 {
     z.value
@@ -143,17 +135,18 @@ pub fn part_record(p: Part) -> PartRecord
 fn grid_record(g: Grid) -> GridRecord
     ensures { λ r. ⌜ r ≡ gridRecord g ⌝ }
 {
+    let a = g.geometry;
     GridRecord {
-        la1: g.la1.value,
-        lo1: g.lo1.value,
-        la2: g.la2.value,
-        lo2: g.lo2.value,
-        ni: g.ni,
-        nj: g.nj,
-        di: g.di,
-        dj: g.dj,
-        flags: g.flags,
-        scan: g.scan,
+        la1: a.la1.value,
+        lo1: a.lo1.value,
+        la2: a.la2.value,
+        lo2: a.lo2.value,
+        ni: g.shape.ni,
+        nj: g.shape.nj,
+        di: a.di,
+        dj: a.dj,
+        flags: a.flags,
+        scan: g.shape.scan,
     }
 }
 
@@ -167,8 +160,8 @@ pub fn header_record(h: Header) -> HeaderRecord
         reply: h.refusal.number,
         points: h.points,
         present: h.present,
-        d: plain(h.d),
-        e: plain(h.scale.e),
+        d: value(h.d),
+        e: value(h.scale.e),
         r: h.scale.r,
         bitmap: bitmap_kind(bitmap),
         grid: grid_record(grid),
@@ -210,33 +203,6 @@ pub fn point_record(pointed: Pointed) -> PointRecord
     match pointed {
         Pointed::At(k) => PointRecord { on: 1, point: k.0 },
         Pointed::Off => PointRecord { on: 0, point: 0 },
-    }
-}
-
-pub fn force_record(f: Force) -> PartRecord
-    ensures { λ r. ⌜ r ≡ partBy (f .stored) (f .part) ⌝ }
-{
-    let mut stored: u32 = 0;
-    if f.stored {
-        stored = 1;
-    }
-    PartRecord {
-        stored,
-        start: f.part.start,
-        len: f.part.len,
-    }
-}
-
-pub fn data_record(n: Numbered) -> DataRecord
-    ensures { λ r. ⌜ r ≡ dataRecord (told n) ⌝ }
-{
-    match n {
-        Numbered::Present(k) => DataRecord {
-            kind: 1,
-            number: k.number(),
-        },
-        Numbered::Absent => DataRecord { kind: 2, number: 0 },
-        Numbered::Outside => DataRecord { kind: 0, number: 0 },
     }
 }
 

@@ -1,33 +1,47 @@
 // A reply read off a table of refusals.
 ghost use mathlib.Core.Path.{_≡_};
 ghost use mathlib.Core.Bool.{cond};
-ghost use Prim.Native.Nat.{_-_};
-ghost use Rattle.rules.specs.Table.{refusal};
+ghost use Rattle.rules.specs.Table.{refusal as theRefusal};
 use rules::Refusal;
+use rules::Written;
+
+// The refusal of a number; 0 is acceptance. Nothing else makes one.
+pub fn refusal(number: u32) -> Refusal
+    ensures { λ r. ⌜ r ≡ theRefusal number ⌝ }
+{
+    Refusal { number }
+}
 
 // The refusal where its test applies, else what the rows below give.
 pub fn refuse(number: u32, test: bool, below: Refusal) -> Refusal
-    ensures { λ r. ⌜ r ≡ cond test (refusal number) below ⌝ }
+    ensures { λ r. ⌜ r ≡ cond test (theRefusal number) below ⌝ }
 {
     if test {
-        return Refusal { number };
+        return refusal(number);
     }
     below
 }
 
-// One of two answers.
-pub fn choose(test: bool, a: bool, b: bool) -> bool
-    ensures { λ r. ⌜ r ≡ cond test a b ⌝ }
+// The refusal of a table's last row, and acceptance where its test does not apply.
+pub fn last(number: u32, applies: bool) -> Refusal
+    ensures { λ r. ⌜ r ≡ cond applies (theRefusal number) (theRefusal 0) ⌝ }
 {
-    if test {
-        return a;
-    }
-    b
+    refuse(number, applies, refusal(0))
 }
 
-// A difference cut at 0.
-pub fn less(a: u32, b: u32) -> u32
-    ensures { λ r. ⌜ r ≡ a - b ⌝ }
+// What writing answers where it is refused: no octets.
+pub fn unwritten(refusal: Refusal) -> Written
+    ensures { λ w. ⌜ w ≡ record { refusal = refusal; len = 0 } ⌝ }
 {
-    if a < b { 0 } else { a - b }
+    Written { refusal, len: 0 }
+}
+
+// What writing answers by a number, with a length.
+pub fn written(number: u32, len: u32) -> Written
+    ensures { λ w. ⌜ w ≡ record { refusal = theRefusal number; len = len } ⌝ }
+{
+    Written {
+        refusal: refusal(number),
+        len,
+    }
 }

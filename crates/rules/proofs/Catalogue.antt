@@ -7,16 +7,17 @@ use lib.Dec.{eqb}
 use lib.IntN.{natAbs, _-ℤ_}
 use Rattle.rules.specs.declared.{Entry.Entry}
 use Rattle.rules.specs.Table.{anyOf}
-use Rattle.rules.specs.Grid.{catalogue, gridFaults}
+use Rattle.rules.specs.Grid.{catalogue, pointsOf, gridFaults}
 use Rattle.rules.proofs.Computes.{computes}
 
 -- Ni − 1 steps of Di lead from Lo1 to Lo2, Nj − 1 steps of Dj from La1 to La2, and row 9 finds no fault
 sensible : Entry → Bool
 sensible e =
-    let g = e .grid in
-    eqb ((g .ni - 1) * g .di) (natAbs (g .lo2 .value -ℤ g .lo1 .value))
-    && eqb ((g .nj - 1) * g .dj) (natAbs (g .la2 .value -ℤ g .la1 .value))
-    && not (anyOf (gridFaults g))
+    let g = e .grid .shape in
+    let a = e .grid .geometry in
+    eqb ((g .ni - 1) * a .di) (natAbs (a .lo2 .value -ℤ a .lo1 .value))
+    && eqb ((g .nj - 1) * a .dj) (natAbs (a .la2 .value -ℤ a .la1 .value))
+    && not (anyOf (gridFaults (e .grid)))
 
 all-sensible : map sensible catalogue ≡ true ∷ true ∷ true ∷ true ∷ true ∷ true ∷ true ∷ []
 unfolding computes sensible
@@ -26,6 +27,6 @@ numbers : map (λ e. e .number) catalogue ≡ 2 ∷ 3 ∷ 29 ∷ 30 ∷ 33 ∷ 3
 unfolding computes
 numbers = refl
 
-points : map (λ e. e .grid .ni * e .grid .nj) catalogue ≡ 10512 ∷ 65160 ∷ 5365 ∷ 5365 ∷ 8326 ∷ 8326 ∷ 41760 ∷ []
+points : map (λ e. pointsOf (e .grid)) catalogue ≡ 10512 ∷ 65160 ∷ 5365 ∷ 5365 ∷ 8326 ∷ 8326 ∷ 41760 ∷ []
 unfolding computes
 points = refl

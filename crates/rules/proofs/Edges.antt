@@ -5,7 +5,7 @@ use mathlib.Core.Bool.{true, false}
 use Prim.Native.Nat.{ℕ}
 use lib.ListN.{set, take, drop}
 use lib.Ieee.{binary64, ofBits}
-use Rattle.rules.specs.declared.{Charted.the-variants.On, Charted.the-variants.Off, Pointed.the-variants.At, Pointed.the-variants.Off as Nowhere}
+use Rattle.rules.specs.declared.{Shape.Shape, Charted.the-variants.On, Charted.the-variants.Off, Pointed.the-variants.At, Pointed.the-variants.Off as Nowhere}
 use Rattle.rules.specs.Chart.{charted, pointed}
 use Rattle.rules.specs.Points.{numbered, outside}
 use Rattle.rules.specs.Reading.{bitmapOf, sectionOf, numberingOf}
@@ -40,12 +40,16 @@ own : map (numberingOf plain nothing) (0 ∷ 1 ∷ 2 ∷ 3 ∷ 4 ∷ []) ++ (num
 unfolding computes
 own = refl
 
+-- three columns and two rows that run north
+abbrev chart : Shape
+chart = record { ni = 3; nj = 2; scan = 64 }
+
 -- the last point and the one after it; the last place, and one to the right of it and one below
-lost : map (λ k. charted 3 2 64 (record { 0 = k })) (5 ∷ 6 ∷ []) ≡ On (record { row = 0; column = 2 }) ∷ Off ∷ []
+lost : map (λ k. charted chart (record { 0 = k })) (5 ∷ 6 ∷ []) ≡ On (record { row = 0; column = 2 }) ∷ Off ∷ []
 unfolding computes
 lost = refl
 
-nowhere : map (pointed 3 2 64) (record { row = 0; column = 2 } ∷ record { row = 0; column = 3 } ∷ record { row = 2; column = 0 } ∷ []) ≡ At (record { 0 = 5 }) ∷ Nowhere ∷ Nowhere ∷ []
+nowhere : map (pointed chart) (record { row = 0; column = 2 } ∷ record { row = 0; column = 3 } ∷ record { row = 2; column = 0 } ∷ []) ≡ At (record { 0 = 5 }) ∷ Nowhere ∷ Nowhere ∷ []
 unfolding computes
 nowhere = refl
 

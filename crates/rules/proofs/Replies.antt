@@ -5,7 +5,8 @@ use mathlib.Core.Bool.{true, false}
 use Prim.Native.Nat.{ℕ, _+_, _/_, _%_}
 use lib.IntN.{ℤ, pos, negsuc}
 use lib.ListN.{set, take, drop, length}
-use Rattle.rules.specs.declared.{Form.Form, Found.the-variants.Nothing, Found.the-variants.Given, Bitmap.the-variants.Without, Bitmap.the-variants.Carried, Bitmap.the-variants.Stored}
+use Rattle.rules.specs.declared.{Geometry.Geometry, Form.Form, Found.the-variants.Nothing, Found.the-variants.Given, Bitmap.the-variants.Without, Bitmap.the-variants.Carried, Bitmap.the-variants.Stored}
+use Rattle.rules.specs.Numbers.{plain}
 use Rattle.rules.specs.Table.{refusal, anyOf}
 use Rattle.rules.specs.Time.{momentFaults}
 use Rattle.rules.specs.Bitmap.{Lent}
@@ -16,7 +17,7 @@ use Rattle.rules.specs.Writing.{Parts, writeOf, outputAfter}
 use Rattle.rules.specs.Checking.{Source, farFrom, checkOf}
 use Rattle.rules.specs.Packing.{spellingOf, exponent, packOf, packedAfter}
 use Rattle.rules.proofs.Computes.{computes, specimen, nothing}
-use Rattle.rules.proofs.Specimen.{z, grid, form, parts, source}
+use Rattle.rules.proofs.Specimen.{grid, form, parts, source}
 
 -- "Every other reply returns its number with all counts and fields zero"
 empty : headerOf [] nothing ≡ refusedBy (refusal 1)
@@ -95,14 +96,18 @@ with-form f = record { pds = parts .pds; form = f; scale = parts .scale; lent = 
 abbrev with-pds : List ℕ → Parts
 with-pds p = record { pds = p; form = form; scale = parts .scale; lent = nothing; values = parts .values; marks = parts .marks }
 
+-- rows that run north, from a higher latitude to a lower
+abbrev upside-down : Geometry
+upside-down = record { la1 = plain (pos 51000); lo1 = plain (pos 0); flags = 0; la2 = plain (pos 50000); lo2 = plain (pos 0); di = 0; dj = 0 }
+
 writing : map (λ w. writeOf w specimen .refusal .number)
     (with-pds (set (parts .pds) 2 30)
     ∷ with-pds (set (parts .pds) 13 0)
     ∷ with-form (record { grid = Nothing; bitmap = Carried; packing = form .packing })
-    ∷ with-form (record { grid = Given (record { ni = 2; nj = 2; la1 = z (pos 51000); lo1 = z (pos 0); flags = 0; la2 = z (pos 50000); lo2 = z (pos 0); di = 0; dj = 0; scan = 64 }); bitmap = Carried; packing = form .packing })
+    ∷ with-form (record { grid = Given (record { shape = grid .shape; geometry = upside-down }); bitmap = Carried; packing = form .packing })
     ∷ with-form (record { grid = Given grid; bitmap = Stored 7; packing = form .packing })
     ∷ with-form (record { grid = Given grid; bitmap = Carried; packing = record { flags = 4; bits = 3 } })
-    ∷ record { pds = parts .pds; form = form; scale = record { e = z (negsuc 32767); r = 0 }; lent = nothing; values = parts .values; marks = parts .marks }
+    ∷ record { pds = parts .pds; form = form; scale = record { e = plain (negsuc 32767); r = 0 }; lent = nothing; values = parts .values; marks = parts .marks }
     ∷ with-form (record { grid = Given grid; bitmap = Without; packing = form .packing })
     ∷ with-form (record { grid = Given grid; bitmap = Carried; packing = record { flags = 2; bits = 2 } })
     ∷ [])

@@ -5,7 +5,8 @@ use mathlib.Core.Bool.{true, false}
 use lib.IntN.{ℤ, pos, negsuc}
 use lib.ListN.{take, drop}
 use lib.Ieee.{binary64, ofBits}
-use Rattle.rules.specs.declared.{Signed.Signed, Grid.Grid, Form.Form, Found.the-variants.Given, Bitmap.the-variants.Carried}
+use Rattle.rules.specs.declared.{Grid.Grid, Form.Form, Found.the-variants.Given, Bitmap.the-variants.Carried}
+use Rattle.rules.specs.Numbers.{plain}
 use Rattle.rules.specs.Table.{refusal}
 use Rattle.rules.specs.Chart.{spotOf}
 use Rattle.rules.specs.Points.{numbered, absent, outside}
@@ -18,24 +19,24 @@ use Rattle.rules.specs.Packing.{packOf, packedAfter}
 use Rattle.rules.specs.Listing.{listingOf}
 use Rattle.rules.proofs.Computes.{computes, specimen, nothing}
 
-abbrev pub z : ℤ → Signed
-z v = record { value = v }
-
 abbrev pub grid : Grid
-grid = record { ni = 2; nj = 2; la1 = z (pos 50000); lo1 = z (negsuc 1999); flags = 128; la2 = z (pos 51000); lo2 = z (negsuc 999); di = 1000; dj = 1000; scan = 64 }
+grid = record {
+  shape = record { ni = 2; nj = 2; scan = 64 };
+  geometry = record { la1 = plain (pos 50000); lo1 = plain (negsuc 1999); flags = 128; la2 = plain (pos 51000); lo2 = plain (negsuc 999); di = 1000; dj = 1000 };
+}
 
 header : headerOf specimen nothing
     ≡ record {
       refusal = refusal 0;
       places = record { pds = record { start = 8; len = 28 }; gds = record { start = 36; len = 32 }; bms = record { start = 68; len = 8 }; bds = record { start = 76; len = 14 } };
       time = record { year = 1998; month = 3; day = 10; hour = 6; minute = 0 };
-      d = z (pos 1);
+      d = plain (pos 1);
       grid = grid;
       points = 4;
       bitmap = Carried;
       present = 3;
       packing = record { flags = 0; bits = 3 };
-      scale = record { e = z (pos 0); r = 0x439c4000 };
+      scale = record { e = plain (pos 0); r = 0x439c4000 };
     }
 unfolding computes
 header = refl
@@ -90,7 +91,7 @@ abbrev pub form : Form
 form = record { grid = Given grid; bitmap = Carried; packing = record { flags = 0; bits = 3 } }
 
 abbrev pub parts : Parts
-parts = record { pds = take 28 (drop 8 specimen); form = form; scale = record { e = z (pos 0); r = 0x439c4000 }; lent = nothing; values = 0 ∷ 2 ∷ 0 ∷ 7 ∷ []; marks = 1 ∷ 1 ∷ 0 ∷ 1 ∷ [] }
+parts = record { pds = take 28 (drop 8 specimen); form = form; scale = record { e = plain (pos 0); r = 0x439c4000 }; lent = nothing; values = 0 ∷ 2 ∷ 0 ∷ 7 ∷ []; marks = 1 ∷ 1 ∷ 0 ∷ 1 ∷ [] }
 
 parts-read : partsIn specimen nothing ≡ parts
 unfolding computes

@@ -7,8 +7,9 @@ use denote.Ref.{RefT}
 use lib.ListN.{length, getD}
 use Rattle.rules.specs.declared.{Part.Part, Bitmap.Bitmap, Bitmap.the-variants.Without, Bitmap.the-variants.Carried, Bitmap.the-variants.Stored}
 use Rattle.bits.specs.Bits.{bitsIn, runs, octetsFor}
-use Rattle.bits.specs.Tables.{tab}
-use Rattle.rules.specs.Numbers.{field, laid, evenFrom, octet, number}
+use Rattle.bits.specs.Tables.{tab, anyBelow}
+use Rattle.rules.specs.Bounds.{bmsHead}
+use Rattle.rules.specs.Numbers.{Field, field, laid, evenFrom, octet, number}
 use Rattle.rules.specs.Places.{octetsOf, noPart, IsPart}
 
 -- "the one the caller lends with each message, one number and whole octets"; none is lent as number 0 and no octets
@@ -29,8 +30,8 @@ unfoldable pub bitmapFaults : List ℕ → Lent → Part → Bitmap → ℕ → 
 bitmapFaults s lent p Without n = []
 bitmapFaults s lent p Carried n =
     let unused = octet s (p .start) 4 in
-    ltb 15 unused ∷ not (eqb (8 * (p .len - 6)) (n + unused)) ∷ []
-bitmapFaults s lent p (Stored number) n = not (eqb (p .len) 6) ∷ not (eqb (octet s (p .start) 4) 0) ∷ lentFaults lent number n
+    ltb 15 unused ∷ not (eqb (8 * (p .len - bmsHead)) (n + unused)) ∷ []
+bitmapFaults s lent p (Stored number) n = not (eqb (p .len) bmsHead) ∷ not (eqb (octet s (p .start) 4) 0) ∷ lentFaults lent number n
 
 -- "The bitmap in force is part of the message or part of the lent store ..: just the octets that hold its n bits. With no bitmap .. it is
 -- the empty part at the message's start": whether it is the store's, and which part of that slice
@@ -43,7 +44,7 @@ noBitmap = record { stored = false; part = noPart }
 
 unfoldable pub inForce : Bitmap → Part → ℕ → InForce
 inForce Without p n = noBitmap
-inForce Carried p n = record { stored = false; part = record { start = p .start + 6; len = octetsFor n } }
+inForce Carried p n = record { stored = false; part = record { start = p .start + bmsHead; len = octetsFor n } }
 inForce (Stored number) p n = record { stored = true; part = record { start = 0; len = octetsFor n } }
 
 unfoldable pub bitmapOctets : List ℕ → List ℕ → InForce → List ℕ
@@ -62,17 +63,32 @@ bitmapGiven (Stored number) = true
 unfoldable pub presentBy : Bitmap → List ℕ → ℕ → ℕ
 presentBy bitmap bits i = cond (bitmapGiven bitmap) (bitsIn 8 bits i) 1
 
--- the mark and the value of a point (the one place that knows how a list of marks says presence)
+-- the mark of a point, the list of n marks, how long it is, and "a mark not 0 or 1" among them (the one place that knows how a list of marks
+-- says presence)
 abbrev pub markOf : List ℕ → ℕ → ℕ
 markOf marks i = getD marks i 0
 
+abbrev pub marksOf : (ℕ → ℕ) → ℕ → List ℕ
+marksOf present n = tab present n
+
+abbrev pub marksLong : ℕ → ℕ
+marksLong n = n
+
+abbrev pub markOdd : List ℕ → ℕ → Bool
+markOdd marks n = anyBelow (λ i. ltb 1 (markOf marks i)) n
+
+-- the value of a point
 abbrev pub valueOf : List ℕ → ℕ → ℕ
 valueOf values i = getD values i 0
 
--- a bitmap section of n points: "length L 1-3; unused bits 4; bitmap number 5-6", bits, "Padding bits are .. written zero"
+-- "length L 1-3; unused bits 4; bitmap number 5-6"
+abbrev pub bmsFields : ℕ → ℕ → ℕ → List Field
+bmsFields len unused number = field 3 len ∷ field 1 unused ∷ field 2 number ∷ []
+
+-- a bitmap section of n points: these fields, bits, "Padding bits are .. written zero"
 unfoldable pub bmsOf : Bitmap → (ℕ → ℕ) → ℕ → List ℕ
 bmsOf Without present n = []
 bmsOf Carried present n =
-    let len = evenFrom (6 + octetsFor n) in
-    laid (field 3 len ∷ field 1 (8 * (len - 6) - n) ∷ field 2 0 ∷ []) (runs (bitsIn 1 (tab present n)) 0 8 (len - 6))
-bmsOf (Stored number) present n = laid (field 3 6 ∷ field 1 0 ∷ field 2 number ∷ []) []
+    let len = evenFrom (bmsHead + octetsFor n) in
+    laid (bmsFields len (8 * (len - bmsHead) - n) 0) (runs (bitsIn 1 (tab present n)) 0 8 (len - bmsHead))
+bmsOf (Stored number) present n = laid (bmsFields bmsHead 0 number) []

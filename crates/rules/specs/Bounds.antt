@@ -29,6 +29,13 @@ bmsLeast = 6
 abbrev pub bdsLeast : ℕ
 bdsLeast = 12
 
+-- what stands in a BMS before its bits, and in a BDS before its data: "data from 12"
+abbrev pub bmsHead : ℕ
+bmsHead = 6
+
+abbrev pub bdsHead : ℕ
+bdsHead = 11
+
 -- Ni, Nj; points n = Ni × Nj
 abbrev pub sideMost : ℕ
 sideMost = 65534

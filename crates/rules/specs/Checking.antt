@@ -11,7 +11,7 @@ use Rattle.rules.specs.Bounds.{pointsMost, sourceMost, stepMost}
 use Rattle.bits.specs.Tables.{anyBelow}
 use Rattle.rules.specs.Numbers.{outside, beyond}
 use Rattle.rules.specs.Table.{Row, row, anyOf, first}
-use Rattle.rules.specs.Bitmap.{Lent, markOf, valueOf}
+use Rattle.rules.specs.Bitmap.{Lent, markOf, marksLong, markOdd, valueOf}
 use Rattle.rules.specs.Values.{unit, sizeOf, whole, wholeOf}
 use Rattle.rules.specs.Reading.{messageTable, pointsIn, presentIn, valuesIn, scaleIn, decimalIn}
 
@@ -34,9 +34,9 @@ anyPresent f test = anyBelow (λ i. eqb (presentOf f i) 1 && test i) (length (f 
 -- 18: "source lists unequal, 0 or over 65,536 long, a mark not 0 or 1, a present number outside its bound"
 unfoldable pub sourceFaults : Source → List Bool
 sourceFaults f =
-    not (eqb (length (f .numbers)) (length (f .marks)))
+    not (eqb (marksLong (length (f .numbers))) (length (f .marks)))
     ∷ outside 1 pointsMost (length (f .numbers))
-    ∷ anyBelow (λ i. ltb 1 (presentOf f i)) (length (f .numbers))
+    ∷ markOdd (f .marks) (length (f .numbers))
     ∷ anyPresent f (λ i. beyond sourceMost (numberOf f i))
     ∷ []
 

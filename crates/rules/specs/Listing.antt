@@ -6,11 +6,11 @@ use lib.Dec.{ltb, eqb}
 use lib.IntN.{ℤ, pos, negsuc}
 use lib.ListN.{length, getD}
 use Rattle.bits.specs.Tables.{tab, leastBelow}
-use Rattle.rules.specs.declared.{Refusal.Refusal, Grid.Grid, Header.Header}
+use Rattle.rules.specs.declared.{Refusal.Refusal, Shape.Shape, Header.Header}
 use Rattle.rules.specs.Bounds.{listedMost, listedRoom}
 use Rattle.rules.specs.Table.{row, firstOr, accepted}
-use Rattle.rules.specs.Bitmap.{Lent, valueOf}
-use Rattle.rules.specs.Chart.{pointOf}
+use Rattle.rules.specs.Bitmap.{Lent, marksLong, valueOf}
+use Rattle.rules.specs.Chart.{rowsOn, rowLong, columnsOn, pointOn}
 use Rattle.rules.specs.Reading.{presentIn, valuesIn, foundIn, readRefusal}
 
 -- text as the octets of its letters
@@ -80,11 +80,11 @@ unfoldable pub cell : (ℕ → ℕ) → List ℕ → ℕ → List ℕ
 cell present values i = cond (eqb (present i) 1) (decimal (valueOf values i)) (hyphen ∷ [])
 
 -- "a line per chart row from north"
-unfoldable pub rowLine : (ℕ → ℕ) → List ℕ → Grid → ℕ → List ℕ
-rowLine present values g r = line (λ c. cell present values (pointOf (g .ni) (g .nj) (g .scan) (record { row = r; column = c }))) (g .ni)
+unfoldable pub rowLine : (ℕ → ℕ) → List ℕ → Shape → ℕ → List ℕ
+rowLine present values g r = line (λ c. cell present values (pointOn g (record { row = r; column = c }))) (rowLong g r)
 
-unfoldable pub rowLines : (ℕ → ℕ) → List ℕ → Grid → List ℕ
-rowLines present values g = joinedTo (rowLine present values g) (g .nj)
+unfoldable pub rowLines : (ℕ → ℕ) → List ℕ → Shape → List ℕ
+rowLines present values g = joinedTo (rowLine present values g) (rowsOn g)
 
 -- "Line 1: points, present, columns, rows, D, E, R as eight hex digits, N"
 unfoldable pub firstLine : Header → List ℕ
@@ -92,8 +92,8 @@ firstLine h =
     lineOf
     (decimal (h .points)
     ∷ decimal (h .present)
-    ∷ decimal (h .grid .ni)
-    ∷ decimal (h .grid .nj)
+    ∷ decimal (columnsOn (h .grid .shape))
+    ∷ decimal (rowsOn (h .grid .shape))
     ∷ decimalSigned (h .d .value)
     ∷ decimalSigned (h .scale .e .value)
     ∷ hexDigits (h .scale .r)
@@ -107,11 +107,11 @@ refusedLine r = lineOf (refusedWord ∷ decimal (r .number) ∷ [])
 -- "longer: reply 1", "more: reply 14"
 unfoldable pub listingRefusal : List ℕ → Refusal
 listingRefusal s =
-    let room = tab (λ _. 0) listedRoom in
-    firstOr (row 1 (ltb listedMost (length s)) ∷ []) (readRefusal s noStore room room)
+    let room = tab (λ _. 0) in
+    firstOr (row 1 (ltb listedMost (length s)) ∷ []) (readRefusal s noStore (room listedRoom) (room (marksLong listedRoom)))
 
 unfoldable pub listingOf : List ℕ → List ℕ
 listingOf s =
     let r = listingRefusal s in
     let h = foundIn s noStore in
-    cond (accepted r) (firstLine h ++ rowLines (presentIn s noStore) (valuesIn s noStore) (h .grid)) (refusedLine r)
+    cond (accepted r) (firstLine h ++ rowLines (presentIn s noStore) (valuesIn s noStore) (h .grid .shape)) (refusedLine r)

@@ -3,7 +3,7 @@ use Prim.Native.Nat.{ℕ, suc, _+_, _-_, _*_, _%_, _^_}
 use mathlib.Core.List.{List, [], _∷_, _++_}
 use mathlib.Core.Bool.{Bool, cond, _||_}
 use lib.Dec.{ltb}
-use lib.IntN.{ℤ, pos, negsuc, negℤ}
+use lib.IntN.{ℤ, pos, negsuc, negℤ, natAbs}
 use lib.Signed.{ltZ}
 use lib.ListN.{getD}
 use Rattle.rules.specs.declared.{Signed.Signed}
@@ -47,21 +47,32 @@ evenFrom c = c + c % 2
 abbrev pub sign : ℕ → ℕ
 sign c = 2 ^ (8 * c - 1)
 
+-- the signed field of a value (a request may give it more than that: only the definitions here know)
+abbrev pub plain : ℤ → Signed
+plain z = record { value = z }
+
 -- "Minus zero reads as 0"
 unfoldable pub signed : ℕ → ℕ → Signed
-signed c v = record { value = cond (ltb v (sign c)) (pos v) (negℤ (pos (v - sign c))) }
+signed c v = plain (cond (ltb v (sign c)) (pos v) (negℤ (pos (v - sign c))))
+
+-- a magnitude that leaves the sign bit of a field of c octets free
+abbrev pub magnitudeFits : ℕ → Signed → Bool
+magnitudeFits c z = ltb (natAbs (z .value)) (sign c)
 
 -- "and is written as plus zero"
-abbrev pub spelled : ℕ → ℤ → ℕ
-spelled c (pos n) = n
-spelled c (negsuc n) = sign c + suc n
+abbrev pub spelledValue : ℕ → ℤ → ℕ
+spelledValue c (pos n) = n
+spelledValue c (negsuc n) = sign c + suc n
+
+abbrev pub spelled : ℕ → Signed → ℕ
+spelled c z = spelledValue c (z .value)
 
 -- the signed field in octets k to l; a signed field of c octets, to be written
 abbrev pub signedAt : List ℕ → ℕ → ℕ → ℕ → Signed
 signedAt s p k l = signed (l + 1 - k) (number s p k l)
 
 abbrev pub signedField : ℕ → Signed → Field
-signedField c z = field c (spelled c (z .value))
+signedField c z = field c (spelled c z)
 
 -- "decimal scale D 27-28", of a PDS at place p
 abbrev pub decimalAt : List ℕ → ℕ → Signed

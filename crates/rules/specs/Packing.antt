@@ -10,7 +10,7 @@ use Rattle.rules.specs.declared.{Refusal.Refusal, Form.Form, Written.Wri
 use Rattle.rules.specs.Bounds.{sourceMost, stepMost}
 use Rattle.bits.specs.Bits.{count}
 use Rattle.bits.specs.Tables.{tab, leastBelow}
-use Rattle.rules.specs.Numbers.{decimalAt}
+use Rattle.rules.specs.Numbers.{plain, decimalAt}
 use Rattle.rules.specs.Table.{Row, row, anyOf, first, filled}
 use Rattle.rules.specs.Bitmap.{Lent}
 use Rattle.rules.specs.Values.{packingFaults}
@@ -65,7 +65,7 @@ packed pds form lent f =
     record {
       pds = pds;
       form = form;
-      scale = record { e = record { value = pos e }; r = spellingOf (reference f) };
+      scale = record { e = plain (pos e); r = spellingOf (reference f) };
       lent = lent;
       values = tab (packedAt f e) (length (f .numbers));
       marks = f .marks;

@@ -7,13 +7,12 @@ use lib.IntN.{pos}
 use lib.ListN.{length, getD}
 use Rattle.rules.specs.declared.{Refusal.Refusal, Signed.Signed, Part.Part, Places.Places, Found.Found, Found.the-variants.Nothing, Found.the-variants.Given, Bitmap.Bitmap, Bitmap.the-variants.Without, Packing.Packing, Scale.Scale, Parsed.Parsed, Header.Header}
 use Rattle.bits.specs.Bits.{count}
-use Rattle.bits.specs.Tables.{tab}
-use Rattle.rules.specs.Numbers.{decimalAt}
+use Rattle.rules.specs.Numbers.{plain, decimalAt}
 use Rattle.rules.specs.Table.{Row, row, anyOf, first, refusal, answered, filled}
 use Rattle.rules.specs.Places.{noPart, pdsStart, endStart, hasGrid, hasBitmap, placesOf, sectionsOf, sizeBad, markBad, editionBad, totalFaults, placesFaults}
 use Rattle.rules.specs.Time.{momentAt, noMoment, timeFaults}
 use Rattle.rules.specs.Grid.{gridAt, gridFrom, gridMissing, noGrid, theGrid, gdsFaults, pointsOf, gridFaults}
-use Rattle.rules.specs.Bitmap.{Lent, bitmapAt, bitmapFaults, InForce, inForce, noBitmap, bitmapOctets, presentBy}
+use Rattle.rules.specs.Bitmap.{Lent, bitmapAt, bitmapFaults, InForce, inForce, noBitmap, bitmapOctets, presentBy, marksOf, marksLong}
 use Rattle.rules.specs.Points.{Numbering, outside, dataNumber, scattered}
 use Rattle.rules.specs.Values.{packingAt, scaleAt, packingFaults, lengthBad, valuesAt}
 
@@ -48,11 +47,16 @@ scaleIn s = scaleAt s (placesOf s .bds .start)
 unfoldable pub decimalIn : List ℕ → Signed
 decimalIn s = decimalAt s pdsStart
 
+-- the values of the m data points, however they are packed
+unfoldable pub dataIn : List ℕ → Lent → List ℕ
+dataIn s lent = valuesAt s (placesOf s .bds .start) (packingIn s .bits) (presentCount s lent)
+
+-- and those of the n grid points, with their marks
 unfoldable pub valuesIn : List ℕ → Lent → List ℕ
-valuesIn s lent = scattered (presentIn s lent) (valuesAt s (placesOf s .bds .start) (packingIn s .bits) (presentCount s lent)) (pointsIn s)
+valuesIn s lent = scattered (presentIn s lent) (dataIn s lent) (pointsIn s)
 
 unfoldable pub marksIn : List ℕ → Lent → List ℕ
-marksIn s lent = tab (presentIn s lent) (pointsIn s)
+marksIn s lent = marksOf (presentIn s lent) (pointsIn s)
 
 -- rows 1 to 11, in three groups; 12 is joined to them in `messageTable`. Each test can be judged once those above it have passed: then none reads past its section
 unfoldable pub layoutRows : List ℕ → Places → List Row
@@ -104,13 +108,13 @@ refusedBy r =
       refusal = r;
       places = record { pds = noPart; gds = noPart; bms = noPart; bds = noPart };
       time = noMoment;
-      d = record { value = pos 0 };
+      d = plain (pos 0);
       grid = noGrid;
       points = 0;
       bitmap = Without;
       present = 0;
       packing = record { flags = 0; bits = 0 };
-      scale = record { e = record { value = pos 0 }; r = 0 };
+      scale = record { e = plain (pos 0); r = 0 };
     }
 
 unfoldable pub foundBy : List ℕ → Parsed → ℕ → Header
@@ -142,7 +146,7 @@ headerOf s lent = answerBy (ownRefusal s lent) s lent
 
 -- reading into lent lists: 14 "lent output too short" comes last
 unfoldable pub readTable : List ℕ → Lent → List ℕ → List ℕ → List Row
-readTable s lent values marks = messageTable s lent ++ (row 14 (ltb (length values) (pointsIn s) || ltb (length marks) (pointsIn s)) ∷ [])
+readTable s lent values marks = messageTable s lent ++ (row 14 (ltb (length values) (pointsIn s) || ltb (length marks) (marksLong (pointsIn s))) ∷ [])
 
 unfoldable pub readRefusal : List ℕ → Lent → List ℕ → List ℕ → Refusal
 readRefusal s lent values marks = first (readTable s lent values marks)

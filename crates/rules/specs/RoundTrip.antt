@@ -5,6 +5,7 @@ use mathlib.Core.List.{List, [], _∷_}
 use lib.Dec.{eqb}
 use Rattle.bits.specs.Bits.{bitsIn, count}
 use Rattle.rules.specs.declared.{Bitmap.Bitmap, Bitmap.the-variants.Without, Bitmap.the-variants.Carried, Bitmap.the-variants.Stored}
+use Rattle.rules.specs.Bounds.{bmsHead, bdsHead}
 use Rattle.rules.specs.Numbers.{octet, number, sign}
 use Rattle.rules.specs.Table.{anyOf}
 use Rattle.rules.specs.Places.{octetsOf, pdsStart, hasGrid, placesOf}
@@ -33,12 +34,12 @@ paddingSet s from unused = not (eqb (count (bitsIn 8 s) from unused) 0)
 
 abbrev pub bitmapPaddingSet : List ℕ → Bitmap → ℕ → ℕ → Bool
 bitmapPaddingSet s Without b n = false
-bitmapPaddingSet s Carried b n = paddingSet s ((b + 6) * 8 + n) (octet s b 4)
+bitmapPaddingSet s Carried b n = paddingSet s ((b + bmsHead) * 8 + n) (octet s b 4)
 bitmapPaddingSet s (Stored number) b n = false
 
 -- the data's padding: what is left of L − 11 octets after m × N bits
 abbrev pub dataPaddingSet : List ℕ → ℕ → ℕ → ℕ → Bool
-dataPaddingSet s b len t = paddingSet s ((b + 11) * 8 + t) (8 * (len - 11) - t)
+dataPaddingSet s b len t = paddingSet s ((b + bdsHead) * 8 + t) (8 * (len - bdsHead) - t)
 
 -- what keeps a message from coming back octet for octet, each by itself: reserved octets, the grid's four signed fields, the bitmap's
 -- padding, E, the data's padding

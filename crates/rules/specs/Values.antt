@@ -5,10 +5,10 @@ use mathlib.Core.List.{List, [], _∷_}
 use lib.Dec.{ltb, eqb}
 use lib.IntN.{ℤ, pos, negℤ}
 use lib.ListN.{length}
-use Rattle.rules.specs.declared.{Part.Part, Packing.Packing, Scale.Scale}
-use Rattle.rules.specs.Bounds.{bitsMost}
+use Rattle.rules.specs.declared.{Signed.Signed, Part.Part, Packing.Packing, Scale.Scale}
+use Rattle.rules.specs.Bounds.{bitsMost, bdsHead}
 use Rattle.bits.specs.Bits.{bitsIn, runs, octetsFor}
-use Rattle.rules.specs.Numbers.{field, laid, evenFrom, octet, number, signedAt, signedField}
+use Rattle.rules.specs.Numbers.{Field, field, laid, evenFrom, octet, number, signedAt, signedField}
 
 -- "octet 4 high half flags, low half unused bits; .. N in 11"
 unfoldable pub packingAt : List ℕ → ℕ → Packing
@@ -28,25 +28,25 @@ packingFaults p = flagsBad (p .flags) ∷ ltb bitsMost (p .bits) ∷ []
 
 -- 12: "With m present points, 8 × (L − 11) − unused = m × N"
 unfoldable pub lengthBad : List ℕ → Part → ℕ → Packing → Bool
-lengthBad s b m p = not (eqb (8 * (b .len - 11)) (m * p .bits + octet s (b .start) 4 % 16))
+lengthBad s b m p = not (eqb (8 * (b .len - bdsHead)) (m * p .bits + octet s (b .start) 4 % 16))
 
 -- "data from 12 .. Values are taken one after another": the m values
 unfoldable pub valuesAt : List ℕ → ℕ → ℕ → ℕ → List ℕ
-valuesAt s b bits m = runs (bitsIn 8 s) ((b + 11) * 8) bits m
+valuesAt s b bits m = runs (bitsIn 8 s) ((b + bdsHead) * 8) bits m
+
+-- "length L 1-3; octet 4 high half flags, low half unused bits; E 5-6; reference R 7-10; N in 11"
+abbrev pub scaleFields : ℕ → ℕ → Signed → ℕ → ℕ → List Field
+scaleFields len flags e r bits = field 3 len ∷ field 1 flags ∷ signedField 2 e ∷ field 4 r ∷ field 1 bits ∷ []
+
+abbrev pub bdsFields : ℕ → ℕ → Packing → Scale → List Field
+bdsFields len unused p c = scaleFields len (p .flags * 16 + unused) (c .e) (c .r) (p .bits)
 
 -- a data section of values, "m × N = 0: L = 12, unused 8", "Padding bits are .. written zero"
 unfoldable pub bdsOf : Packing → Scale → List ℕ → List ℕ
 bdsOf p c xs =
     let t = length xs * p .bits in
-    let len = evenFrom (11 + octetsFor t) in
-    laid
-    (field 3 len
-    ∷ field 1 (p .flags * 16 + (8 * (len - 11) - t))
-    ∷ signedField 2 (c .e)
-    ∷ field 4 (c .r)
-    ∷ field 1 (p .bits)
-    ∷ [])
-    (runs (bitsIn (p .bits) xs) 0 8 (len - 11))
+    let len = evenFrom (bdsHead + octetsFor t) in
+    laid (bdsFields len (8 * (len - bdsHead) - t) p c) (runs (bitsIn (p .bits) xs) 0 8 (len - bdsHead))
 
 -- "s 1 bit, A 7 bits, B 24 bits"
 abbrev pub sOf : ℕ → ℕ

@@ -8,12 +8,12 @@ use Rattle.rules.specs.declared.{Refusal.Refusal, Found.Found, Found.the
 use Rattle.rules.specs.Bounds.{pdsLeast, pdsMost, exponentMost}
 use Rattle.bits.specs.Bits.{bitsIn}
 use Rattle.bits.specs.Tables.{anyBelow}
-use Rattle.rules.specs.Numbers.{number, field, laid, joined, outside, beyond}
+use Rattle.rules.specs.Numbers.{Field, number, field, laid, joined, outside, beyond}
 use Rattle.rules.specs.Table.{Row, row, anyOf, first, answered, filled}
 use Rattle.rules.specs.Places.{grib, sevens, hasGrid, hasBitmap}
 use Rattle.rules.specs.Time.{timeFaults}
 use Rattle.rules.specs.Grid.{gridFrom, gridMissing, theGrid, gridFaults, pointsOf, gdsOf}
-use Rattle.rules.specs.Bitmap.{bitmapGiven, markOf, valueOf, Lent, lentFaults, bmsOf}
+use Rattle.rules.specs.Bitmap.{bitmapGiven, markOf, marksLong, markOdd, valueOf, Lent, lentFaults, bmsOf}
 use Rattle.rules.specs.Points.{gathered}
 use Rattle.rules.specs.Values.{packingFaults, bdsOf}
 
@@ -37,9 +37,9 @@ pointsFor w = pointsOf (theGrid (gridFor w))
 unfoldable pub pdsFaults : List ℕ → List Bool
 pdsFaults pds = eqb (length pds % 2) 1 ∷ outside pdsLeast pdsMost (length pds) ∷ not (eqb (number pds 0 1 3) (length pds)) ∷ []
 
--- both lists n long
+-- both lists of n points
 unfoldable pub listsFit : List ℕ → List ℕ → ℕ → Bool
-listsFit values marks n = eqb (length values) n && eqb (length marks) n
+listsFit values marks n = eqb (length values) n && eqb (length marks) (marksLong n)
 
 -- 10: "no such stored bitmap, or (writing, lists n long) one of its first n bits isn't the same number as the mark"
 unfoldable pub storedFaults : Bitmap → Lent → List ℕ → List ℕ → ℕ → List Bool
@@ -53,17 +53,18 @@ abbrev pub gridGiven : Found → Bool
 gridGiven Nothing = false
 gridGiven (Given g) = true
 
--- 13, at one point: "a mark not 0 or 1, an absent point without a bitmap or with value not 0, a value of 2^N or more"
+-- 13, at one point: "an absent point without a bitmap or with value not 0, a value of 2^N or more"
 unfoldable pub pointBad : Bool → ℕ → ℕ → ℕ → Bool
-pointBad bitmap bits mark value = ltb 1 mark || (eqb mark 0 && (not bitmap || not (eqb value 0))) || leb (2 ^ bits) value
+pointBad bitmap bits mark value = (eqb mark 0 && (not bitmap || not (eqb value 0))) || leb (2 ^ bits) value
 
 abbrev pub differ : Bool → Bool → Bool
 differ a b = cond a (not b) b
 
--- 13: "lists not n long, .., PDS octet 8 not matching the parts given"
+-- 13: "lists not n long, a mark not 0 or 1, .., PDS octet 8 not matching the parts given"
 unfoldable pub partsFaults : Parts → List Bool
 partsFaults w =
     not (listsFit (w .values) (w .marks) (pointsFor w))
+    ∷ markOdd (w .marks) (pointsFor w)
     ∷ anyBelow (λ i. pointBad (bitmapGiven (w .form .bitmap)) (w .form .packing .bits) (markOf (w .marks) i) (valueOf (w .values) i)) (pointsFor w)
     ∷ differ (hasGrid (w .pds) 0) (gridGiven (w .form .grid))
     ∷ differ (hasBitmap (w .pds) 0) (bitmapGiven (w .form .bitmap))
@@ -85,10 +86,13 @@ sectionsFor w =
     ∷ []
 
 -- "Indicator, 8 octets: 'GRIB', total length (5-7), edition 1 (8)"
+abbrev pub indicatorFields : ℕ → List Field
+indicatorFields len = field 4 grib ∷ field 3 len ∷ field 1 1 ∷ []
+
 unfoldable pub message : Parts → List ℕ
 message w =
     let sections = joined (sectionsFor w) in
-    laid (field 4 grib ∷ field 3 (8 + length sections) ∷ field 1 1 ∷ []) sections
+    laid (indicatorFields (8 + length sections)) sections
 
 -- "The writer never gives 1 to 4, 8 or 12"
 unfoldable pub writeTable : Parts → List ℕ → List Row

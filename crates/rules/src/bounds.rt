@@ -16,6 +16,11 @@ pub const BMS_LEAST: u32 = 6;
 
 pub const BDS_LEAST: u32 = 12;
 
+// What stands in a BMS before its bits, and in a BDS before its data: "data from 12".
+pub const BMS_HEAD: u32 = 6;
+
+pub const BDS_HEAD: u32 = 11;
+
 // "GDS: length 1-3 is 32".
 pub const GDS_LENGTH: u32 = 32;
 

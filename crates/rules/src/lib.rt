@@ -36,10 +36,15 @@ pub struct Moment {
     pub minute: u8,
 }
 
-// A latitude/longitude grid.
-pub struct Grid {
+// What points, places and rows ask of a grid: Ni, Nj and the scanning flags.
+pub struct Shape {
     pub ni: u16,
     pub nj: u16,
+    pub scan: u8,
+}
+
+// Where a latitude/longitude grid lies: what only the reading, judging and writing of a GDS ask of it.
+pub struct Geometry {
     pub la1: Signed,
     pub lo1: Signed,
     pub flags: u8,
@@ -47,7 +52,12 @@ pub struct Grid {
     pub lo2: Signed,
     pub di: u16,
     pub dj: u16,
-    pub scan: u8,
+}
+
+// A grid.
+pub struct Grid {
+    pub shape: Shape,
+    pub geometry: Geometry,
 }
 
 // A row of the catalogue.

@@ -83,7 +83,22 @@ fn unpack_8(s: &[u8], k: usize, out: &mut [u32], m: usize)
     }
 }
 
-// Values of twelve bits from octet k on: two in three octets.
+// Two values of twelve bits are three octets: the first and the second of those from octet p on.
+fn first_12(s: &[u8], p: usize) -> u32
+    requires { ⌜ p + 2 ≤ length (now s) ⌝ }
+    ensures { λ r. ⌜ r ≡ run (bitsIn 8 (now (s .entry))) (p * 8) 12 ⌝ }
+{
+    low(s[p]) * 16 + low(s[p + 1]) / 16
+}
+
+fn second_12(s: &[u8], p: usize) -> u32
+    requires { ⌜ p + 3 ≤ length (now s) ⌝ }
+    ensures { λ r. ⌜ r ≡ run (bitsIn 8 (now (s .entry))) (p * 8 + 12) 12 ⌝ }
+{
+    low(s[p + 1]) % 16 * 256 + low(s[p + 2])
+}
+
+// Values of twelve bits from octet k on.
 fn unpack_12(s: &[u8], k: usize, out: &mut [u32], m: usize)
     requires { ⌜ k + m * 12 / 8 + 4 ≤ length (now s) ⌝ }
     requires { ⌜ m ≤ length (now out) ⌝ }
@@ -91,11 +106,9 @@ fn unpack_12(s: &[u8], k: usize, out: &mut [u32], m: usize)
 {
     let mut h: usize = 0;
     while h < m / 2 {
-        let a = low(s[k + h * 3]);
-        let b = low(s[k + h * 3 + 1]);
-        let c = low(s[k + h * 3 + 2]);
-        out[h * 2] = a * 16 + b / 16;
-        out[h * 2 + 1] = b % 16 * 256 + c;
+        let p = k + h * 3;
+        out[h * 2] = first_12(s, p);
+        out[h * 2 + 1] = second_12(s, p);
         h += 1;
     }
     if h * 2 < m {

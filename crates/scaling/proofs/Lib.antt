@@ -1,4 +1,5 @@
 pub mod Distances
 pub mod Stepping
 pub mod Walked
+pub mod Folded
 pub mod Choosing

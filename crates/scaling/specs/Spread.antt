@@ -1,5 +1,5 @@
 -- What one walk over the points finds for R and E: whether one is marked, the least present number, and the greatest.
-use Prim.Native.Nat.{ℕ, suc, _^_, _<_}
+use Prim.Native.Nat.{ℕ, zero, suc, _^_, _<_}
 use mathlib.Core.Bool.{Bool, false, not, cond}
 use mathlib.Core.Path.{_≡_}
 use mathlib.Core.Logic.{_⊎_}
@@ -13,6 +13,18 @@ use Rattle.bits.specs.Tables.{leastBelow}
 use Rattle.rules.specs.Bounds.{stepMost}
 use Rattle.rules.specs.Bitmap.{markOf}
 use Rattle.rules.specs.Packing.{lowest, stepped}
+
+-- the lesser of two numbers, and the greater
+abbrev pub lesserOf : ℤ → ℤ → ℤ
+lesserOf a b = cond (ltZ a b) a b
+
+abbrev pub greaterOf : ℤ → ℤ → ℤ
+greaterOf a b = cond (ltZ b a) a b
+
+-- of z and the first n numbers, one after another, what f takes
+unfoldable pub folded : (ℤ → ℤ → ℤ) → ℤ → (ℕ → ℤ) → ℕ → ℤ
+folded f z v zero = z
+folded f z v (suc n) = f (v n) (folded f z v n)
 
 -- of the first n points, whether one is marked
 abbrev pub someIn : List ℕ → ℕ → Bool

@@ -2,18 +2,23 @@
 // X grows with r, so that all X fit in N bits where the greatest does.
 ghost use mathlib.Core.Path.{_≡_};
 ghost use mathlib.Core.Bool.{cond};
-ghost use Prim.Native.Nat.{_^_};
+ghost use Prim.Native.Nat.{ℕ, _^_, _<_, _≤_};
 ghost use lib.Dec.{ltb, leb};
-ghost use lib.IntN.{ℤ, natAbs, _-ℤ_};
-ghost use lib.Signed.{ltZ};
-ghost use lib.ListN.{length};
+ghost use lib.IntN.{ℤ, pos, natAbs, _-ℤ_};
+ghost use lib.Signed.{mag};
+ghost use lib.ListN.{length, getD};
 ghost use Rattle.rules.specs.Packing.{reference as theReference, exponent as theExponent, stepped};
-ghost use Rattle.scaling.specs.Spread.{someIn, lowestIn, Highest, spreadOf, leastFor};
+ghost use Rattle.scaling.specs.Spread.{lesserOf, greaterOf, folded, someIn, lowestIn, Highest, spreadOf, leastFor};
+use gathering::gather_numbers;
+use marks::none_marked;
 use rules::bounds::SOURCE_MOST;
 use rules::bounds::STEP_MOST;
 
 // How many E there are to choose from, 0 to 24.
 const STEPS: u8 = STEP_MOST as u8 + 1;
+
+// How many points are looked at at once, at most.
+const BLOCK: usize = 256;
 
 // No number is below it.
 const LEAST: i32 = -2147483648;
@@ -76,7 +81,7 @@ fn pick(here: bool, v: i32, other: i32) -> i32
 }
 
 fn lesser(a: i32, b: i32) -> i32
-    ensures { λ r. ⌜ r ≡ cond (ltZ a b) a b ⌝ }
+    ensures { λ r. ⌜ r ≡ lesserOf a b ⌝ }
 {
     if a < b {
         return a;
@@ -85,7 +90,7 @@ fn lesser(a: i32, b: i32) -> i32
 }
 
 fn greater(a: i32, b: i32) -> i32
-    ensures { λ r. ⌜ r ≡ cond (ltZ b a) a b ⌝ }
+    ensures { λ r. ⌜ r ≡ greaterOf a b ⌝ }
 {
     if b < a {
         return a;
@@ -102,21 +107,53 @@ fn shorter(a: usize, b: usize) -> usize
     b
 }
 
-// One walk for all that R and E need, without a branch: an absent point counts as the number that changes nothing. Marks past their end are 0.
+// The least of the first c numbers and of `low`.
+fn least_of(numbers: &[i32], c: usize, low: i32) -> i32
+    requires { ⌜ c ≤ length (now numbers) ⌝ }
+    ensures { λ r. ⌜ r ≡ folded lesserOf low (λ k. getD (now (numbers .entry)) k (pos 0)) c ⌝ }
+{
+    let mut least = low;
+    let mut k: usize = 0;
+    while k < c {
+        least = lesser(numbers[k], least);
+        k += 1;
+    }
+    least
+}
+
+// The greatest of the first c numbers and of `high`; and each of these has 32 bits.
+fn greatest_of(numbers: &[i32], c: usize, high: i32) -> i32
+    requires { ⌜ c ≤ length (now numbers) ⌝ }
+    ensures { λ r. ⌜ r ≡ folded greaterOf high (λ k. getD (now (numbers .entry)) k (pos 0)) c ⌝ }
+    ensures { λ _. ⌜ ((k : ℕ) → k < c → mag (getD (now (numbers .entry)) k (pos 0)) < 2 ^ 31) ⌝ }
+{
+    let mut greatest = high;
+    let mut k: usize = 0;
+    while k < c {
+        greatest = greater(numbers[k], greatest);
+        k += 1;
+    }
+    greatest
+}
+
+// One walk for all that R and E need: the numbers at the present points of a block are gathered, without a branch on a mark, and the least and
+// the greatest of them found. Marks past their end are 0.
 fn walk(numbers: &[i32], marks: &[u8]) -> Extremes
     ensures { λ r. ⌜ (r .marked ≡ someIn (now (marks .entry)) (length (now (numbers .entry)))) × ((r .low ≡ lowestIn (now (numbers .entry)) (now (marks .entry)) (length (now (numbers .entry)))) × Highest (now (numbers .entry)) (now (marks .entry)) (length (now (numbers .entry))) (r .high)) ⌝ }
 {
     let n = shorter(numbers.len(), marks.len());
-    let mut marked = false;
+    let mut held = [0i32; BLOCK];
     let mut low = SOURCE_MOST;
     let mut high = LEAST;
-    let mut i = 0;
+    let mut i: usize = 0;
     while i < n {
-        marked = marked | (marks[i] != 0);
-        low = lesser(pick(marks[i] == 1, numbers[i], SOURCE_MOST), low);
-        high = greater(pick(marks[i] == 1, numbers[i], LEAST), high);
-        i += 1;
+        let c = shorter(n - i, BLOCK);
+        let m = gather_numbers(&numbers[i..i + c], marks, i, &mut held);
+        low = least_of(&held, m, low);
+        high = greatest_of(&held, m, high);
+        i += c;
     }
+    let marked = !none_marked(marks, numbers.len());
     Extremes {
         marked: marked,
         low: low,

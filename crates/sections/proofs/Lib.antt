@@ -1,12 +1,11 @@
--- The proofs, from the general to the particular: octets placed, rooms, marks, sections, what is laid down around the values, values put one
--- after another, what the rows leave, and the message.
+-- The proofs, from the general to the particular: octets placed, rooms, marks, sections, what is laid down around the values, the
+-- end of the data, what the rows leave, and the message.
 pub mod Placing
 pub mod Lengths
 pub mod Marks
 pub mod Sections
 pub mod Framed
 pub mod Gathered
-pub mod Filling
 pub mod Ending
 pub mod Ready
 pub mod Message

@@ -7,7 +7,8 @@ use native.Mathlib.Omega.{arith}
 use borrow.Author.Tests.{ne-eqb, eqb-false, lt-ltb, le-ltb}
 use lib.Dec.{eqb, ltb}
 use lib.ListN.{length, take, drop, length-append}
-use Rattle.bits.specs.Bits.{bitsIn, runs, count, placed}
+use Rattle.rules.specs.Bounds.{bdsHead, bitsMost}
+use Rattle.bits.specs.Bits.{bitsIn, runs, count, placed, packedInto}
 use Rattle.bits.proofs.Runs.{Bits}
 use Rattle.bits.proofs.Trip.{length-runs}
 use Rattle.bits.proofs.Placing.{placed-front, length-placed, placed-next}
@@ -28,9 +29,9 @@ use Rattle.writable.specs.Rows.{frontRows, scaleFaults, middleRows, earlyRows, 
 use Rattle.writable.specs.Listed.{Listed}
 use Rattle.sections.specs.declared.{Frame.Frame}
 use Rattle.sections.specs.Given.{parts}
-use Rattle.sections.specs.Layout.{indicatorFields, presentIn, bdsRoom, frontRoom, messageRoom, sectionsBy, messageBy, frontBy, headBy}
+use Rattle.rules.specs.Writing.{indicatorFields}
+use Rattle.sections.specs.Layout.{presentIn, bdsRoom, frontRoom, messageRoom, sectionsBy, messageBy, frontBy, headBy}
 use Rattle.sections.specs.Framing.{lengthIn, frameOf, frameIn, framed}
-use Rattle.sections.specs.Filling.{Filled}
 use Rattle.sections.proofs.Placing.{laid-rest}
 use Rattle.sections.proofs.Lengths.{gds-room, bms-room, bds-room}
 use Rattle.sections.proofs.Marks.{present-count}
@@ -80,13 +81,13 @@ module _ (pds : List ℕ) (form : Form) (scale : Scale) (f : ℕ → ℕ) (b : B
 
   -- the front, what stands before the data, the data and the end are the whole
   pub message-parts : (m len : ℕ) → m ≡ count f 0 n → len ≡ messageRoom (length pds) form n m
-      → (frontBy pds form f n len ++ headBy (form .packing) scale m) ++ (runs (bitsIn (form .packing .bits) xs) 0 8 (bdsRoom (form .packing .bits) m - 11) ++ S) ≡ messageBy pds form scale f v n
+      → (frontBy pds form f n len ++ headBy (form .packing) scale m) ++ (runs (bitsIn (form .packing .bits) xs) 0 8 (bdsRoom (form .packing .bits) m - bdsHead) ++ S) ≡ messageBy pds form scale f v n
   unfolding messageBy frontBy
   message-parts m len em el =
       let I = indicatorFields len in
       let F = laid I (pds ++ (G ++ M)) in
       let H = headBy (form .packing) scale m in
-      let R = runs (bitsIn (form .packing .bits) xs) 0 8 (bdsRoom (form .packing .bits) m - 11) in
+      let R = runs (bitsIn (form .packing .bits) xs) 0 8 (bdsRoom (form .packing .bits) m - bdsHead) in
       append-assoc F H (R ++ S)
       ∙ ap (λ (x : List ℕ). F ++ x) (sym (append-assoc H R S) ∙ ap (λ (x : List ℕ). x ++ S) (head-data (form .packing) scale xs m (em ∙ sym (length-gathered f b v n))))
       ∙ ap (λ (x : List ℕ). x ++ (D ++ S)) (laid-rest I (pds ++ (G ++ M))) ∙ append-assoc (laid I []) (pds ++ (G ++ M)) (D ++ S)
@@ -95,45 +96,44 @@ module _ (pds : List ℕ) (form : Form) (scale : Scale) (f : ℕ → ℕ) (b : B
       ∙ ap (λ (x : ℕ). laid (indicatorFields x) (joined (sectionsBy pds form scale f v n))) (el ∙ ap (messageRoom (length pds) form n) em ∙ sym length-sections ∙ ap (λ (x : List ℕ). 8 + length x) (sym sections))
 
 -- the values put where the frame leaves room for them, and '7777' after them: the whole message
-pub whole-placed : (pds : List ℕ) (form : Form) (scale : Scale) (values marks out : List ℕ) → Listed values marks (form .packing .bits) → (f : Frame) → Begun pds form scale marks out f
-    → (o₁ : List ℕ) → o₁ ≡ framed pds form scale marks out
-    → (q : List ℕ) → Filled (form .packing .bits) (gathered (markOf marks) (valueOf values) (length marks)) (take (length o₁ - f .at) (drop (f .at) o₁)) q
+pub whole-placed : (pds : List ℕ) (form : Form) (scale : Scale) (values marks : List ℕ) (n : ℕ) (out : List ℕ) → Listed values marks (form .packing .bits) → (f : Frame) → Begun pds form scale marks n out f
+    → (o₁ : List ℕ) → o₁ ≡ framed pds form scale marks n out
+    → (q : List ℕ) → q ≡ packedInto (form .packing .bits) (gathered (markOf marks) (valueOf values) n) (take (length o₁ - f .at) (drop (f .at) o₁))
     → (o₃ : List ℕ) → o₃ ≡ putNumber (take (f .at) o₁ ++ (q ++ drop (length o₁ - f .at) (drop (f .at) o₁))) (f .len - 4) 1 4 sevens
-    → o₃ ≡ placed out 0 (messageBy pds form scale (markOf marks) (valueOf values) (length marks))
+    → o₃ ≡ placed out 0 (messageBy pds form scale (markOf marks) (valueOf values) n)
 unfolding frameIn messageRoom
-whole-placed pds form scale values marks out p f k o₁ e₁ q fill o₃ e₃ =
-    let n = length marks in
-    let m = presentIn marks in
+whole-placed pds form scale values marks n out p f k o₁ e₁ q fill o₃ e₃ =
+    let m = presentIn marks n in
     let N = form .packing .bits in
     let xs = gathered (markOf marks) (valueOf values) n in
-    let P = frontBy pds form (markOf marks) n (lengthIn pds form marks) ++ headBy (form .packing) scale m in
-    let R = runs (bitsIn N xs) 0 8 (bdsRoom N m - 11) in
+    let P = frontBy pds form (markOf marks) n (lengthIn pds form marks n) ++ headBy (form .packing) scale m in
+    let R = runs (bitsIn N xs) 0 8 (bdsRoom N m - bdsHead) in
     let S = laid (field 4 sevens ∷ []) [] in
-    let em : m ≡ count (markOf marks) 0 n = present-count marks (p .mark) in
+    let em : m ≡ count (markOf marks) 0 n = present-count marks (p .mark) n in
     let lx : length xs * N ≡ m * N = ap (λ (x : ℕ). x * N) (length-gathered (markOf marks) (p .mark) (valueOf values) n ∙ sym em) in
-    let lp : length P ≡ frontRoom (length pds) form n + 11 =
-    length-append (frontBy pds form (markOf marks) n (lengthIn pds form marks)) (headBy (form .packing) scale m) ∙ ap₂ (λ (x y : ℕ). x + y) (front-length pds form (markOf marks) n (lengthIn pds form marks)) (head-length (form .packing) scale m) in
+    let lp : length P ≡ frontRoom (length pds) form n + bdsHead =
+    length-append (frontBy pds form (markOf marks) n (lengthIn pds form marks n)) (headBy (form .packing) scale m) ∙ ap₂ (λ (x y : ℕ). x + y) (front-length pds form (markOf marks) n (lengthIn pds form marks n)) (head-length (form .packing) scale m) in
     let h = k .held in
     let room = k .room in
     let at = k .at in
     let len = k .len in
     let ly : length (placed out 0 P) ≡ length out = length-placed out 0 P (omega (arith, lp, h .least)) in
-    let lr : length R ≡ bdsRoom N m - 11 = length-runs (bitsIn N xs) 0 8 (bdsRoom N m - 11) in
+    let lr : length R ≡ bdsRoom N m - bdsHead = length-runs (bitsIn N xs) 0 8 (bdsRoom N m - bdsHead) in
     let ls : length S ≡ 4 = laid-length (field 4 sevens ∷ []) [] in
     let lrs = length-append R S in
-    let c1 : frontRoom (length pds) form n + (bdsRoom N m - 1) ≡ f .at + (bdsRoom N m - 11 - 1) = omega (arith, at, h .least) in
+    let c1 : frontRoom (length pds) form n + (bdsRoom N m - 1) ≡ f .at + (bdsRoom N m - bdsHead - 1) = omega (arith, at, h .least) in
     let j : f .at ≡ 0 + length P = omega (arith, at, lp) in
-    data-laid N xs (wide-gathered (markOf marks) (p .mark) (valueOf values) N (p .value) n) (bdsRoom N m - 11) (omega (arith, h .least)) (omega (arith, h .low, lx)) (omega (arith, h .high, lx))
+    data-laid N xs (wide-gathered (markOf marks) (p .mark) (valueOf values) N (p .value) n) (bdsRoom N m - bdsHead) (omega (arith, h .least)) (omega (arith, h .low, lx)) (omega (arith, h .high, lx))
     (placed out 0 P) (f .at) (omega (arith, at, h .least, ly)) o₁ (e₁ ∙ k .is ∙ ap (λ (x : ℕ). placed (placed out 0 P) x (octets 1 0)) c1) q fill (f .len - 4) (omega (arith, at, len, h .least)) o₃ e₃
     ∙ ap (λ (x : ℕ). placed (placed out 0 P) x (R ++ S)) j
     ∙ placed-next out 0 P (R ++ S) (omega (arith, lp, lrs, lr, ls, h .least))
-    ∙ ap (placed out 0) (message-parts pds form scale (markOf marks) (p .mark) (valueOf values) n m (lengthIn pds form marks) em refl)
+    ∙ ap (placed out 0) (message-parts pds form scale (markOf marks) (p .mark) (valueOf values) n m (lengthIn pds form marks n) em refl)
 
 -- where the values go in so many octets, and that they have room
 pub record Room (form : Form) (values marks : List ℕ) (f : Frame) (long : ℕ) : Type 0 where
-  pub bits : form .packing .bits ≤ 24
+  pub bits : form .packing .bits ≤ bitsMost
   pub listed : Listed values marks (form .packing .bits)
-  pub present : f .present ≡ count (markOf marks) 0 (length marks)
+  pub present : f .present ≡ count (markOf marks) 0 (length values)
   pub start : f .at ≤ long
   pub data-room : f .present * form .packing .bits / 8 + 4 ≤ long - f .at
   pub end : 4 ≤ f .len
@@ -188,41 +188,41 @@ module _ (pds : List ℕ) (form : Form) (scale : Scale) (number : ℕ) (store va
       pub ready : Ready pds form scale values marks n
       ready = ready-of pds form scale (w .lent) values marks found ef g eg n en r er z
 
-      length-of : lengthIn pds form marks ≡ length (message w)
+      length-of : lengthIn pds form marks n ≡ length (message w)
       length-of =
           let k = ready in
-          ap₂ (messageRoom (length pds) form) (k .long) (present-count marks (k .listed .mark) ∙ ap (count (markOf marks) 0) (k .long))
+          ap (messageRoom (length pds) form n) (present-count marks (k .listed .mark) n)
           ∙ sym (message-length pds form scale (markOf marks) (k .listed .mark) (valueOf values) n) ∙ ap length (sym message-of)
 
-      module _ (f : Frame) (fe : f ≡ frameOf pds form scale marks (length out)) where
-        pub refused-late : f .len ≡ 0 → (o : List ℕ) → o ≡ framed pds form scale marks out → (record { refusal = refusal 14; len = 0 } ≡ writeOf w out) × (o ≡ outputAfter w out)
+      module _ (f : Frame) (fe : f ≡ frameOf pds form scale marks n (length out)) where
+        pub refused-late : f .len ≡ 0 → (o : List ℕ) → o ≡ framed pds form scale marks n out → (record { refusal = refusal 14; len = 0 } ≡ writeOf w out) × (o ≡ outputAfter w out)
         refused-late h o e =
-            let s = shut-of pds form scale marks out (ready .sound) f fe h in
+            let s = shut-of pds form scale marks n out (ready .sound) f fe h in
             let l = length-of in
             let q = refused (refusal 14) (late z true (lt-ltb (length out) (length (message w)) (omega (arith, s .0, l)))) (eqb-false 14 0 refl) in
             (q .0, e ∙ s .1 ∙ q .1)
 
         module _ (nz : f .len ≡ 0 → ⊥) where
-          begun : Begun pds form scale marks out f
-          begun = begun-of pds form scale marks out (ready .sound) f fe nz
+          begun : Begun pds form scale marks n out f
+          begun = begun-of pds form scale marks n out (ready .sound) f fe nz
 
           pub room-of : Room form values marks f (length out)
           unfolding messageRoom
           room-of =
               let k = begun in
               let h = k .held in
-              let p : f .present * form .packing .bits ≡ presentIn marks * form .packing .bits = ap (λ (x : ℕ). x * form .packing .bits) (k .present) in
+              let p : f .present * form .packing .bits ≡ presentIn marks n * form .packing .bits = ap (λ (x : ℕ). x * form .packing .bits) (k .present) in
               record {
                 bits = ready .bits;
                 listed = ready .listed;
-                present = k .present ∙ present-count marks (ready .listed .mark);
+                present = k .present ∙ present-count marks (ready .listed .mark) n ∙ ap (count (markOf marks) 0) (sym (ready .long));
                 start = omega (arith, k .at, k .room, h .least);
                 data-room = omega (arith, k .at, k .room, h .least, h .holds, p);
                 end = omega (arith, k .len);
               }
 
-          pub written : (o₁ : List ℕ) → o₁ ≡ framed pds form scale marks out
-              → (q : List ℕ) → Filled (form .packing .bits) (gathered (markOf marks) (valueOf values) (length marks)) (take (length o₁ - f .at) (drop (f .at) o₁)) q
+          pub written : (o₁ : List ℕ) → o₁ ≡ framed pds form scale marks n out
+              → (q : List ℕ) → q ≡ packedInto (form .packing .bits) (gathered (markOf marks) (valueOf values) (length values)) (take (length o₁ - f .at) (drop (f .at) o₁))
               → (o₃ : List ℕ) → o₃ ≡ putNumber (take (f .at) o₁ ++ (q ++ drop (length o₁ - f .at) (drop (f .at) o₁))) (f .len - 4) 1 4 sevens
               → (record { refusal = refusal 0; len = f .len } ≡ writeOf w out) × (o₃ ≡ outputAfter w out)
           unfolding writeOf outputAfter lengthOf filled
@@ -231,8 +231,9 @@ module _ (pds : List ℕ) (form : Form) (scale : Scale) (number : ℕ) (store va
               let l = length-of in
               let t : writeRefusal w out ≡ refusal 0 = late z false (le-ltb (length out) (length (message w)) (omega (arith, k .room, l))) in
               let p : o₃ ≡ placed out 0 (message w) =
-              whole-placed pds form scale values marks out (ready .listed) f k o₁ e₁ q fill o₃ e₃
-              ∙ ap (placed out 0) (ap (messageBy pds form scale (markOf marks) (valueOf values)) (ready .long) ∙ sym message-of) in (
+              whole-placed pds form scale values marks n out (ready .listed) f k o₁ e₁ q
+              (fill ∙ ap (λ (x : ℕ). packedInto (form .packing .bits) (gathered (markOf marks) (valueOf values) x) (take (length o₁ - f .at) (drop (f .at) o₁))) (ready .long)) o₃ e₃
+              ∙ ap (placed out 0) (sym message-of) in (
                 rw t (ap {B = Written} (λ (x : ℕ). record { refusal = refusal 0; len = x }) (k .len ∙ l)),
                 rw t (p ∙ placed-front out (message w)),
               )

@@ -13,20 +13,16 @@ use lib.ListN.{length, take, drop, length-append, length-drop, take-append-drop,
 use lib.Seq.{take-suc, take-all, take-append-add, drop-append-add, drop-length, length-take-le}
 use Rattle.bits.specs.Bits.{bitOf, numberAt, placed}
 use Rattle.bits.proofs.Trip.{length-runs}
-use Rattle.bits.proofs.Placing.{placed-none, length-placed, placed-next, number-placed, set-placed}
+use Rattle.bits.proofs.Placing.{placed-none, length-placed, placed-next, number-placed}
+use Rattle.marks.proofs.Bitmaps.{placed-set}
 use Rattle.rules.specs.declared.{Signed.Signed}
+use Rattle.laws.specs.Signs.{SignFree}
 use Rattle.rules.specs.Numbers.{Field, field, octets, laid, sign, spelled, signedField}
 use Rattle.puts.specs.Put.{putFits, putNumber, signedFits, putSigned}
 use Rattle.laws.proofs.Fields.{widths, laid-append, laid-length}
 
 pub length-octets : (c x : ℕ) → length (octets c x) ≡ c
 length-octets c x = length-runs (bitOf (c * 8) x) 0 8 c
-
--- one octet stored just after what is placed
-pub placed-set : (d : List ℕ) (at : ℕ) (p : List ℕ) (x : ℕ) → at + length p < length d → set (placed d at p) (at + length p) x ≡ placed d at (p ++ (x ∷ []))
-placed-set d at p x h =
-    let l = length-placed d at p (omega arith) in
-    set-placed (placed d at p) (at + length p) x (omega arith) ∙ placed-next d at p (x ∷ []) (omega arith)
 
 -- what is placed in the second of two parts; in a list from a place on
 pub placed-after : (a b : List ℕ) (k : ℕ) (p : List ℕ) → placed (a ++ b) (length a + k) p ≡ a ++ placed b k p
@@ -107,11 +103,11 @@ module _ {d : List ℕ} {at t : ℕ} {fs : List Field} {o : List ℕ} (l : Laid 
     room = l .room;
   }
 
-  pub put-signed : (p k c : ℕ) (x : Signed) (o' : List ℕ) → o' ≡ putSigned o p k c (x .value) → p + (k - 1) ≡ at + w → w + c ≤ t
-      → natAbs (x .value) < sign c → Laid d at t (fs ++ (signedField c x ∷ [])) o'
+  pub put-signed : (p k c : ℕ) (x : Signed) (o' : List ℕ) → o' ≡ putSigned o p k c x → p + (k - 1) ≡ at + w → w + c ≤ t
+      → SignFree c x → Laid d at t (fs ++ (signedField c x ∷ [])) o'
   unfolding putSigned signedFits
   put-signed p k c x o' f e h b =
-      let y = spelled c (x .value) in
+      let y = spelled c x in
       record {
         is = f ∙ ap₂ (λ (u v : Bool). cond (u && v) (numberAt o (p + (k - 1)) c y) o) (fits p k c e h) (lt-ltb (natAbs (x .value)) (sign c) b)
             ∙ ap (λ (n : ℕ). numberAt o n c y) e ∙ next c y h;

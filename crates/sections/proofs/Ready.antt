@@ -4,6 +4,7 @@ use mathlib.Core.Bool.{false}
 use mathlib.Core.List.{List}
 use Prim.Native.Nat.{ℕ, _≤_}
 use lib.ListN.{length}
+use Rattle.rules.specs.Bounds.{pointsMost, bitsMost}
 use Rattle.rules.specs.declared.{Refusal.Refusal, Grid.Grid, Found.Found, Found.the-variants.Nothing, Found.the-variants.Given, Form.Form, Scale.Scale}
 use Rattle.rules.specs.Table.{anyOf, first}
 use Rattle.rules.specs.Grid.{gridFrom, theGrid, gridFaults, pointsOf}
@@ -22,9 +23,9 @@ given-good (Given g) pds e = e
 
 -- all that laying down a message leans on
 pub record Ready (pds : List ℕ) (form : Form) (scale : Scale) (values marks : List ℕ) (n : ℕ) : Type 0 where
-  pub sound : unsound pds form scale marks ≡ false
-  pub bits : form .packing .bits ≤ 24
-  pub long : length marks ≡ n
+  pub sound : unsound pds form scale n ≡ false
+  pub bits : form .packing .bits ≤ bitsMost
+  pub long : length values ≡ n
   pub listed : Listed values marks (form .packing .bits)
 
 pub ready-of : (pds : List ℕ) (form : Form) (scale : Scale) (lent : Lent) (values marks : List ℕ) (found : Found) → found ≡ gridFrom (form .grid) pds 0
@@ -32,11 +33,11 @@ pub ready-of : (pds : List ℕ) (form : Form) (scale : Scale) (lent : Lent) (val
     → Ready pds form scale values marks n
 ready-of pds form scale lent values marks found ef g eg n en r e z =
     let a = accepted-of pds form scale lent values marks found n r e z in
-    let m : n ≤ 65536 = subst (λ (x : ℕ). x ≤ 65536) (sym (en ∙ ap pointsOf eg)) (a .points-most) in
+    let m : n ≤ pointsMost = subst (λ (x : ℕ). x ≤ pointsMost) (sym (en ∙ ap pointsOf eg)) (a .points-most) in
     record {
-      sound = sound-is pds form scale marks (a .pds-most) (subst (λ (x : ℕ). x ≤ 65536) (sym (a .marks-long)) m)
+      sound = sound-is pds form scale marks n (a .pds-most) m
           (given-good (form .grid) pds (subst (λ (x : Found). anyOf (gridFaults (theGrid x)) ≡ false) ef (a .grid))) (a .scaled);
       bits = scale-ok scale (form .packing) (a .scaled) .bits;
-      long = a .marks-long;
+      long = a .values-long;
       listed = listed-of values marks (form .packing .bits) n (a .values-long) (a .marks-long) m (a .point);
     }

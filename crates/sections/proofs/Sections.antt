@@ -6,10 +6,11 @@ use Prim.Native.Nat.{ℕ, _+_, _-_, _*_, _≤_}
 use native.Mathlib.Nat.{add-zero}
 use native.Mathlib.Omega.{arith}
 use lib.ListN.{length, length-append}
+use Rattle.rules.specs.Bounds.{bmsHead, bdsHead}
 use Rattle.bits.specs.Bits.{bitsIn, octetsFor, runs, placed}
-use Rattle.bits.proofs.Fill.{tab-of}
+use Rattle.bits.specs.Tables.{tab}
 use Rattle.bits.proofs.Trip.{length-runs}
-use Rattle.bits.proofs.Placing.{placed-none, number-placed}
+use Rattle.bits.proofs.Placing.{placed-none, length-placed, number-placed}
 use Rattle.rules.specs.declared.{Grid.Grid, Found.Found, Found.the-variants.Nothing, Found.the-variants.Given, Bitmap.Bitmap, Bitmap.the-variants.Without, Bitmap.the-variants.Carried, Bitmap.the-variants.Stored, Form.Form, Packing.Packing, Scale.Scale}
 use Rattle.rules.specs.Numbers.{octets, laid, evenFrom}
 use Rattle.rules.specs.Table.{anyOf}
@@ -17,10 +18,15 @@ use Rattle.rules.specs.Grid.{gdsOf, gridFaults}
 use Rattle.rules.specs.Bitmap.{bmsOf, markOf}
 use Rattle.rules.specs.Values.{bdsOf}
 use Rattle.rules.specs.Writing.{gdsFor}
-use Rattle.sections.specs.Layout.{indicatorFields, bmsFields, bdsFields, gdsRoom, bmsRoom, bdsRoom, frontRoom, frontBy, headBy}
+use Rattle.rules.specs.Writing.{indicatorFields}
+use Rattle.rules.specs.Bitmap.{bmsFields}
+use Rattle.rules.specs.Values.{scaleFields}
+use Rattle.sections.specs.Layout.{gdsRoom, bmsRoom, bdsRoom, frontRoom, frontBy, headBy}
 use Rattle.sections.specs.Framing.{givenBad}
 use Rattle.puts.specs.Put.{putNumber}
 use Rattle.laws.proofs.Fields.{laid-length}
+use Rattle.marks.specs.Marks.{marksPut}
+use Rattle.marks.proofs.Bitmaps.{put-fits}
 use Rattle.sections.proofs.Placing.{laid-rest, number-put, two-placed, three-placed}
 use Rattle.sections.proofs.Lengths.{gds-room, bms-room}
 
@@ -44,39 +50,41 @@ unfolding bmsRoom bmsOf
 map-none m present n d at e = rw e (sym (add-zero at), sym (placed-none d at))
 
 module _ (m : Bitmap) (e : m ≡ Carried) where
-  pub carried-fits : (at n l : ℕ) → at + bmsRoom m n ≤ l → at + evenFrom (6 + octetsFor n) ≤ l
+  pub carried-fits : (at n l : ℕ) → at + bmsRoom m n ≤ l → at + evenFrom (bmsHead + octetsFor n) ≤ l
   unfolding bmsRoom
   carried-fits at n l h = rw e at h
 
-  pub map-carried : (present : ℕ → ℕ) (n : ℕ) (d o : List ℕ) (at len : ℕ) → len ≡ evenFrom (6 + octetsFor n) → o ≡ placed d at (bmsOf Carried present n)
+  pub map-carried : (present : ℕ → ℕ) (n : ℕ) (d o : List ℕ) (at len : ℕ) → len ≡ evenFrom (bmsHead + octetsFor n) → o ≡ placed d at (bmsOf Carried present n)
       → (at + len ≡ at + bmsRoom m n) × (o ≡ placed d at (bmsOf m present n))
   unfolding bmsRoom
   map-carried present n d o at len l h = rw e (ap (λ (x : ℕ). at + x) l, h)
 
 module _ (m : Bitmap) (k : ℕ) (e : m ≡ Stored k) where
-  pub stored-fits : (at n l : ℕ) → at + bmsRoom m n ≤ l → at + 6 ≤ l
+  pub stored-fits : (at n l : ℕ) → at + bmsRoom m n ≤ l → at + bmsHead ≤ l
   unfolding bmsRoom
   stored-fits at n l h = rw e at h
 
   pub map-stored : (present : ℕ → ℕ) (n : ℕ) (d o : List ℕ) (at : ℕ) → o ≡ placed d at (laid (bmsFields 6 0 k) [])
-      → (at + 6 ≡ at + bmsRoom m n) × (o ≡ placed d at (bmsOf m present n))
+      → (at + bmsHead ≡ at + bmsRoom m n) × (o ≡ placed d at (bmsOf m present n))
   unfolding bmsRoom bmsOf
   map-stored present n d o at h = rw e (refl, h)
 
 -- a BMS whose bits follow
-pub carried-placed : (d marks : List ℕ) (at len unused : ℕ) → len ≡ evenFrom (6 + octetsFor (length marks)) → unused ≡ 8 * (len - 6) - length marks → at + len ≤ length d
-    → (o₁ o₂ : List ℕ) → o₁ ≡ placed d at (laid (bmsFields len unused 0) []) → o₂ ≡ placed o₁ (at + 6) (runs (bitsIn 1 marks) 0 8 (len - 6))
-    → o₂ ≡ placed d at (bmsOf Carried (markOf marks) (length marks))
+pub carried-placed : (d marks : List ℕ) (at n len unused : ℕ) → len ≡ evenFrom (bmsHead + octetsFor n) → unused ≡ 8 * (len - bmsHead) - n → at + len ≤ length d
+    → (o₁ o₂ : List ℕ) → o₁ ≡ placed d at (laid (bmsFields len unused 0) []) → o₂ ≡ marksPut marks n o₁ (at + bmsHead) (len - bmsHead)
+    → o₂ ≡ placed d at (bmsOf Carried (markOf marks) n)
 unfolding bmsOf
-carried-placed d marks at len unused e u h o₁ o₂ e₁ e₂ =
+carried-placed d marks at n len unused e u h o₁ o₂ e₁ e₂ =
     let F = bmsFields len unused 0 in
-    let R = runs (bitsIn 1 marks) 0 8 (len - 6) in
-    let r : length R ≡ len - 6 = length-runs (bitsIn 1 marks) 0 8 (len - 6) in
-    two-placed d at (laid F []) R [] (at + 6) (at + 6 + length R) (ap (λ (n : ℕ). at + n) (sym (laid-length F []))) refl (omega arith) o₁ o₂ e₁ e₂
+    let f = bitsIn 1 (tab (markOf marks) n) in
+    let R = runs f 0 8 (len - bmsHead) in
+    let r : length R ≡ len - bmsHead = length-runs f 0 8 (len - bmsHead) in
+    let p : length (laid F []) ≡ 6 = laid-length F [] in
+    let l : length o₁ ≡ length d = ap length e₁ ∙ length-placed d at (laid F []) (omega arith) in
+    two-placed d at (laid F []) R [] (at + bmsHead) (at + bmsHead + length R) (ap (λ (x : ℕ). at + x) (sym p)) refl (omega arith) o₁ o₂ e₁
+    (e₂ ∙ put-fits marks o₁ n (at + bmsHead) (len - bmsHead) (omega arith))
     ∙ ap (placed d at) (sym (laid-rest F R))
-    ∙ ap₂ (λ (x y : ℕ). placed d at (laid (bmsFields x y 0) (runs (bitsIn 1 marks) 0 8 (x - 6)))) e (u ∙ ap (λ (x : ℕ). 8 * (x - 6) - length marks) e)
-    ∙ ap (λ (x : List ℕ). placed d at (laid (bmsFields (evenFrom (6 + octetsFor (length marks))) (8 * (evenFrom (6 + octetsFor (length marks)) - 6) - length marks) 0)
-    (runs (bitsIn 1 x) 0 8 (evenFrom (6 + octetsFor (length marks)) - 6)))) (sym (tab-of marks 0))
+    ∙ ap₂ (λ (x y : ℕ). placed d at (laid (bmsFields x y 0) (runs f 0 8 (x - bmsHead)))) e (u ∙ ap (λ (x : ℕ). 8 * (x - bmsHead) - n) e)
 
 -- the front of a message
 pub front-placed : (d pds : List ℕ) (form : Form) (present : ℕ → ℕ) (n len b : ℕ) → frontRoom (length pds) form n ≤ length d
@@ -104,26 +112,26 @@ front-length pds form present n len =
     laid-length (indicatorFields len) (pds ++ (G ++ M))
     ∙ ap (λ (x : ℕ). 8 + x) (length-append pds (G ++ M) ∙ ap (λ (x : ℕ). length pds + x) (length-append G M ∙ ap₂ (λ (x y : ℕ). x + y) (gds-room (form .grid)) (bms-room (form .bitmap) present n)))
 
-pub head-length : (packing : Packing) (scale : Scale) (m : ℕ) → length (headBy packing scale m) ≡ 11
+pub head-length : (packing : Packing) (scale : Scale) (m : ℕ) → length (headBy packing scale m) ≡ bdsHead
 unfolding headBy
 head-length packing scale m =
     let len = bdsRoom (packing .bits) m in
-    laid-length (bdsFields len (packing .flags * 16 + (8 * (len - 11) - m * packing .bits)) (scale .e) (scale .r) (packing .bits)) []
+    laid-length (scaleFields len (packing .flags * 16 + (8 * (len - bdsHead) - m * packing .bits)) (scale .e) (scale .r) (packing .bits)) []
 
 pub head-data : (packing : Packing) (scale : Scale) (xs : List ℕ) (m : ℕ) → m ≡ length xs
-    → headBy packing scale m ++ runs (bitsIn (packing .bits) xs) 0 8 (bdsRoom (packing .bits) m - 11) ≡ bdsOf packing scale xs
+    → headBy packing scale m ++ runs (bitsIn (packing .bits) xs) 0 8 (bdsRoom (packing .bits) m - bdsHead) ≡ bdsOf packing scale xs
 unfolding headBy bdsOf bdsRoom
 head-data packing scale xs m e =
-    ap (λ (k : ℕ). headBy packing scale k ++ runs (bitsIn (packing .bits) xs) 0 8 (bdsRoom (packing .bits) k - 11)) e
-    ∙ sym (laid-rest (bdsFields (bdsRoom (packing .bits) (length xs)) (packing .flags * 16 + (8 * (bdsRoom (packing .bits) (length xs) - 11) - length xs * packing .bits)) (scale .e) (scale .r) (packing .bits)) _)
+    ap (λ (k : ℕ). headBy packing scale k ++ runs (bitsIn (packing .bits) xs) 0 8 (bdsRoom (packing .bits) k - bdsHead)) e
+    ∙ sym (laid-rest (scaleFields (bdsRoom (packing .bits) (length xs)) (packing .flags * 16 + (8 * (bdsRoom (packing .bits) (length xs) - bdsHead) - length xs * packing .bits)) (scale .e) (scale .r) (packing .bits)) _)
 
 -- it laid down, and the last octet of the section cleared
 pub head-placed : (d : List ℕ) (packing : Packing) (scale : Scale) (at m len flags : ℕ) → len ≡ bdsRoom (packing .bits) m → 1 ≤ len
-    → flags ≡ packing .flags * 16 + (8 * (len - 11) - m * packing .bits) → (o₁ o₂ : List ℕ) → length o₁ ≡ length d → at + len ≤ length d
-    → o₁ ≡ placed d at (laid (bdsFields len flags (scale .e) (scale .r) (packing .bits)) []) → o₂ ≡ putNumber o₁ (at + (len - 1)) 1 1 0
+    → flags ≡ packing .flags * 16 + (8 * (len - bdsHead) - m * packing .bits) → (o₁ o₂ : List ℕ) → length o₁ ≡ length d → at + len ≤ length d
+    → o₁ ≡ placed d at (laid (scaleFields len flags (scale .e) (scale .r) (packing .bits)) []) → o₂ ≡ putNumber o₁ (at + (len - 1)) 1 1 0
     → o₂ ≡ placed (placed d at (headBy packing scale m)) (at + (bdsRoom (packing .bits) m - 1)) (octets 1 0)
 unfolding headBy
 head-placed d packing scale at m len flags el one ef o₁ o₂ lo room e₁ e₂ =
     number-put o₁ o₂ (at + (len - 1)) 1 0 (omega arith) (omega arith) e₂ ∙ number-placed o₁ (at + (len - 1)) 1 0
-    ∙ ap (λ (x : List ℕ). placed x (at + (len - 1)) (octets 1 0)) (e₁ ∙ ap (λ (x : ℕ). placed d at (laid (bdsFields len x (scale .e) (scale .r) (packing .bits)) [])) ef)
-    ∙ ap (λ (k : ℕ). placed (placed d at (laid (bdsFields k (packing .flags * 16 + (8 * (k - 11) - m * packing .bits)) (scale .e) (scale .r) (packing .bits)) [])) (at + (k - 1)) (octets 1 0)) el
+    ∙ ap (λ (x : List ℕ). placed x (at + (len - 1)) (octets 1 0)) (e₁ ∙ ap (λ (x : ℕ). placed d at (laid (scaleFields len x (scale .e) (scale .r) (packing .bits)) [])) ef)
+    ∙ ap (λ (k : ℕ). placed (placed d at (laid (scaleFields k (packing .flags * 16 + (8 * (k - bdsHead) - m * packing .bits)) (scale .e) (scale .r) (packing .bits)) [])) (at + (k - 1)) (octets 1 0)) el

@@ -6,7 +6,7 @@ use lib.Dec.{ltb}
 use lib.ListN.{length}
 use Rattle.bits.specs.Bits.{placed}
 use Rattle.rules.specs.declared.{Found.Found, Found.the-variants.Nothing, Found.the-variants.Given, Form.Form, Scale.Scale}
-use Rattle.rules.specs.Bounds.{pdsMost, pointsMost}
+use Rattle.rules.specs.Bounds.{pdsMost, bdsHead, pointsMost}
 use Rattle.rules.specs.Numbers.{octets}
 use Rattle.rules.specs.Table.{anyOf}
 use Rattle.rules.specs.Grid.{gridFaults}
@@ -21,28 +21,27 @@ givenBad Nothing = false
 givenBad (Given g) = anyOf (gridFaults g)
 
 -- parts that are out of the rules' bounds, so that their octets would not hold them
-unfoldable pub unsound : List ℕ → Form → Scale → List ℕ → Bool
-unsound pds form scale marks = ltb pdsMost (length pds) || ltb pointsMost (length marks) || givenBad (form .grid) || anyOf (scaleFaults scale (form .packing))
+unfoldable pub unsound : List ℕ → Form → Scale → ℕ → Bool
+unsound pds form scale n = ltb pdsMost (length pds) || ltb pointsMost n || givenBad (form .grid) || anyOf (scaleFaults scale (form .packing))
 
-abbrev pub lengthIn : List ℕ → Form → List ℕ → ℕ
-lengthIn pds form marks = messageRoom (length pds) form (length marks) (presentIn marks)
+abbrev pub lengthIn : List ℕ → Form → List ℕ → ℕ → ℕ
+lengthIn pds form marks n = messageRoom (length pds) form n (presentIn marks n)
 
 -- nothing is laid down of such parts, or where there is no room for the whole message
-unfoldable pub unframed : List ℕ → Form → Scale → List ℕ → ℕ → Bool
-unframed pds form scale marks room = unsound pds form scale marks || ltb room (lengthIn pds form marks)
+unfoldable pub unframed : List ℕ → Form → Scale → List ℕ → ℕ → ℕ → Bool
+unframed pds form scale marks n room = unsound pds form scale n || ltb room (lengthIn pds form marks n)
 
 -- the answer, in so much room
-unfoldable pub frameOf : List ℕ → Form → Scale → List ℕ → ℕ → Frame
-frameOf pds form scale marks room = cond (unframed pds form scale marks room) (record { at = 0; present = 0; len = 0 })
-    (record { at = frontRoom (length pds) form (length marks) + 11; present = presentIn marks; len = lengthIn pds form marks })
+unfoldable pub frameOf : List ℕ → Form → Scale → List ℕ → ℕ → ℕ → Frame
+frameOf pds form scale marks n room = cond (unframed pds form scale marks n room) (record { at = 0; present = 0; len = 0 })
+    (record { at = frontRoom (length pds) form n + bdsHead; present = presentIn marks n; len = lengthIn pds form marks n })
 
 -- the octets up to the data, and the data's last octet, which no value may reach, cleared
-unfoldable pub frameIn : List ℕ → Form → Scale → List ℕ → List ℕ → List ℕ
-frameIn pds form scale marks out =
-    let m = presentIn marks in
-    let n = length marks in
-    placed (placed out 0 (frontBy pds form (markOf marks) n (lengthIn pds form marks) ++ headBy (form .packing) scale m))
+unfoldable pub frameIn : List ℕ → Form → Scale → List ℕ → ℕ → List ℕ → List ℕ
+frameIn pds form scale marks n out =
+    let m = presentIn marks n in
+    placed (placed out 0 (frontBy pds form (markOf marks) n (lengthIn pds form marks n) ++ headBy (form .packing) scale m))
     (frontRoom (length pds) form n + (bdsRoom (form .packing .bits) m - 1)) (octets 1 0)
 
-unfoldable pub framed : List ℕ → Form → Scale → List ℕ → List ℕ → List ℕ
-framed pds form scale marks out = cond (unframed pds form scale marks (length out)) out (frameIn pds form scale marks out)
+unfoldable pub framed : List ℕ → Form → Scale → List ℕ → ℕ → List ℕ → List ℕ
+framed pds form scale marks n out = cond (unframed pds form scale marks n (length out)) out (frameIn pds form scale marks n out)

@@ -1,5 +1,4 @@
--- What a message is given, its parts in order, what is laid down around its values, and values put one after another.
+-- What a message is given, its parts in order, and what is laid down around its values.
 pub mod Given
 pub mod Layout
 pub mod Framing
-pub mod Filling

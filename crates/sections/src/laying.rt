@@ -3,22 +3,27 @@ ghost use mathlib.Core.Path.{_≡_};
 ghost use mathlib.Core.Bool.{false};
 ghost use mathlib.Core.List.{[]};
 ghost use Prim.Native.Nat.{_+_, _-_, _^_, _<_, _≤_};
-ghost use lib.IntN.{natAbs};
 ghost use lib.ListN.{length};
-ghost use Rattle.bits.specs.Bits.{bitsIn, runs, octetsFor, placed};
+ghost use Rattle.bits.specs.Bits.{octetsFor, placed};
 ghost use Rattle.rules.specs.declared.Bitmap.the-variants.{Carried};
-ghost use Rattle.rules.specs.Bounds.{pointsMost, bitsMost};
+ghost use Rattle.rules.specs.Bounds.{gdsLength, bmsHead, bdsHead, pointsMost, bitsMost};
 ghost use Rattle.rules.specs.Table.{anyOf};
 ghost use Rattle.rules.specs.Numbers.{octets, laid, evenFrom};
-ghost use Rattle.rules.specs.Grid.{gridFaults, gdsOf};
-ghost use Rattle.rules.specs.Bitmap.{bmsOf, markOf};
-ghost use Rattle.rules.specs.Writing.{gdsFor};
-ghost use Rattle.sections.specs.Layout.{indicatorFields, shapeFields, cornerFields, stepFields, bmsFields, bdsFields, gdsRoom, bmsRoom, bdsRoom, frontRoom, frontBy, headBy};
+ghost use Rattle.rules.specs.Grid.{gdsLengthOf, headFields, cornerFields, stepFields, gdsOf, gridFaults};
+ghost use Rattle.rules.specs.Bitmap.{bmsFields, bmsOf, markOf};
+ghost use Rattle.rules.specs.Values.{scaleFields};
+ghost use Rattle.rules.specs.Writing.{gdsFor, indicatorFields};
+ghost use Rattle.laws.specs.Signs.{SignFree};
+ghost use Rattle.sections.specs.Layout.{gdsRoom, bmsRoom, bdsRoom, frontRoom, frontBy, headBy};
 ghost use Rattle.sections.specs.Framing.{givenBad};
+use crate::rooms::BDS_OCTETS;
+use crate::rooms::BMS_OCTETS;
+use crate::rooms::GDS_OCTETS;
 use crate::rooms::bds_room;
 use crate::rooms::carried_room;
-use octets::octet;
+use marks::put;
 use places::GRIB;
+use places::PDS_START;
 use puts::put_four;
 use puts::put_octet;
 use puts::put_signed_three;
@@ -32,6 +37,7 @@ use rules::Grid;
 use rules::Packing;
 use rules::Scale;
 use rules::Signed;
+use rules::bounds::BMS_HEAD;
 use rules::bounds::GDS_LENGTH;
 
 fn put_indicator(out: &mut [u8], len: u32)
@@ -59,7 +65,7 @@ fn copy(s: &[u8], out: &mut [u8], at: usize)
 // Octets 1 to 10 of the GDS at place g.
 fn put_shape(out: &mut [u8], g: usize, ni: u16, nj: u16)
     requires { ⌜ g + 10 ≤ length (now out) ⌝ }
-    ensures { λ _. ⌜ now (out .exit) ≡ placed (now (out .entry)) g (laid (shapeFields ni nj) []) ⌝ }
+    ensures { λ _. ⌜ now (out .exit) ≡ placed (now (out .entry)) g (laid (headFields gdsLength ni nj) []) ⌝ }
 {
     put_three(out, g, 1, GDS_LENGTH);
     put_octet(out, g, 4, 0);
@@ -80,8 +86,8 @@ fn put_corners(
     lo2: Signed,
 )
     requires { ⌜ g + 23 ≤ length (now out) ⌝ }
-    requires { ⌜ (natAbs (la1 .value) < 8388608) × (natAbs (lo1 .value) < 8388608) ⌝ }
-    requires { ⌜ (natAbs (la2 .value) < 8388608) × (natAbs (lo2 .value) < 8388608) ⌝ }
+    requires { ⌜ SignFree 3 la1 × SignFree 3 lo1 ⌝ }
+    requires { ⌜ SignFree 3 la2 × SignFree 3 lo2 ⌝ }
     ensures { λ _. ⌜ now (out .exit) ≡ placed (now (out .entry)) (g + 10) (laid (cornerFields la1 lo1 flags la2 lo2) []) ⌝ }
 {
     put_signed_three(out, g, 11, la1);
@@ -104,13 +110,15 @@ fn put_steps(out: &mut [u8], g: usize, di: u16, dj: u16, scan: u8)
 
 // The GDS at place g.
 fn put_gds(out: &mut [u8], g: usize, grid: Grid)
-    requires { ⌜ g + 32 ≤ length (now out) ⌝ }
+    requires { ⌜ g + gdsLengthOf grid ≤ length (now out) ⌝ }
     requires { ⌜ anyOf (gridFaults grid) ≡ false ⌝ }
     ensures { λ _. ⌜ now (out .exit) ≡ placed (now (out .entry)) g (gdsOf grid) ⌝ }
 {
-    put_shape(out, g, grid.ni, grid.nj);
-    put_corners(out, g, grid.la1, grid.lo1, grid.flags, grid.la2, grid.lo2);
-    put_steps(out, g, grid.di, grid.dj, grid.scan);
+    let shape = grid.shape;
+    let a = grid.geometry;
+    put_shape(out, g, shape.ni, shape.nj);
+    put_corners(out, g, a.la1, a.lo1, a.flags, a.la2, a.lo2);
+    put_steps(out, g, a.di, a.dj, shape.scan);
 }
 
 // The GDS of a grid that is given, and the place after it.
@@ -124,14 +132,14 @@ fn put_grid(out: &mut [u8], g: usize, grid: Found) -> usize
         Found::Nothing => g,
         Found::Given(given) => {
             put_gds(out, g, given);
-            g + 32
+            g + GDS_OCTETS
         }
     }
 }
 
 // What stands in a BMS before its bits.
 fn put_bms(out: &mut [u8], b: usize, len: u32, unused: u8, number: u16)
-    requires { ⌜ b + 6 ≤ length (now out) ⌝ }
+    requires { ⌜ b + bmsHead ≤ length (now out) ⌝ }
     requires { ⌜ len < 2 ^ 24 ⌝ }
     ensures { λ _. ⌜ now (out .exit) ≡ placed (now (out .entry)) b (laid (bmsFields len unused number) []) ⌝ }
 {
@@ -140,81 +148,68 @@ fn put_bms(out: &mut [u8], b: usize, len: u32, unused: u8, number: u16)
     put_two(out, b, 5, number);
 }
 
-// c octets of marks, eight to an octet, the first leftmost, and zeros after the last mark.
-fn put_marks(marks: &[u8], out: &mut [u8], at: usize, c: usize)
-    requires { ⌜ at + c ≤ length (now out) ⌝ }
-    requires { ⌜ c ≤ pointsMost ⌝ }
-    ensures { λ _. ⌜ now (out .exit) ≡ placed (now (out .entry)) at (runs (bitsIn 1 (now (marks .entry))) 0 8 c) ⌝ }
-{
-    let mut k: usize = 0;
-    while k < c {
-        let mut x: u8 = 0;
-        let mut j: usize = 0;
-        while j < 8 {
-            x = x * 2 + octet(marks, k * 8 + j, 1) % 2;
-            j += 1;
-        }
-        out[at + k] = x;
-        k += 1;
-    }
-}
-
 // A BMS whose bits follow.
-fn put_carried(out: &mut [u8], b: usize, marks: &[u8])
-    requires { ⌜ length (now marks) ≤ pointsMost ⌝ }
-    requires { ⌜ b + evenFrom (6 + octetsFor (length (now marks))) ≤ length (now out) ⌝ }
-    ensures { λ _. ⌜ now (out .exit) ≡ placed (now (out .entry)) b (bmsOf Carried (markOf (now (marks .entry))) (length (now (marks .entry)))) ⌝ }
+fn put_carried(out: &mut [u8], b: usize, marks: &[u8], n: u32)
+    requires { ⌜ n ≤ pointsMost ⌝ }
+    requires { ⌜ b + evenFrom (bmsHead + octetsFor n) ≤ length (now out) ⌝ }
+    ensures { λ _. ⌜ now (out .exit) ≡ placed (now (out .entry)) b (bmsOf Carried (markOf (now (marks .entry))) n) ⌝ }
 {
-    let n = marks.len();
-    let len = carried_room(n as u32);
-    let unused = 8 * (len - 6) - n;
+    let len = carried_room(n);
+    let unused = 8 * (len - BMS_OCTETS) - n as usize;
     put_bms(out, b, len as u32, unused as u8, 0);
-    put_marks(marks, out, b + 6, len - 6);
+    put(marks, n, out, b + BMS_OCTETS, len - BMS_OCTETS);
 }
 
 // The BMS, and the place after it.
-fn put_bitmap(out: &mut [u8], b: usize, bitmap: Bitmap, marks: &[u8]) -> usize
-    requires { ⌜ length (now marks) ≤ pointsMost ⌝ }
-    requires { ⌜ b + bmsRoom bitmap (length (now marks)) ≤ length (now out) ⌝ }
-    ensures { λ r. ⌜ r ≡ b + bmsRoom bitmap (length (now (marks .entry))) ⌝ }
-    ensures { λ _. ⌜ now (out .exit) ≡ placed (now (out .entry)) b (bmsOf bitmap (markOf (now (marks .entry))) (length (now (marks .entry)))) ⌝ }
+fn put_bitmap(out: &mut [u8], b: usize, bitmap: Bitmap, marks: &[u8], n: u32) -> usize
+    requires { ⌜ n ≤ pointsMost ⌝ }
+    requires { ⌜ b + bmsRoom bitmap n ≤ length (now out) ⌝ }
+    ensures { λ r. ⌜ r ≡ b + bmsRoom bitmap n ⌝ }
+    ensures { λ _. ⌜ now (out .exit) ≡ placed (now (out .entry)) b (bmsOf bitmap (markOf (now (marks .entry))) n) ⌝ }
 {
     match bitmap {
         Bitmap::Without => b,
         Bitmap::Carried => {
-            put_carried(out, b, marks);
-            b + carried_room(marks.len() as u32)
+            put_carried(out, b, marks, n);
+            b + carried_room(n)
         }
         Bitmap::Stored(number) => {
-            put_bms(out, b, 6, 0, number);
-            b + 6
+            put_bms(out, b, BMS_HEAD, 0, number);
+            b + BMS_OCTETS
         }
     }
 }
 
 // All that stands before the data section of a message of len octets, and the place after it.
-pub(crate) fn lay_front(pds: &[u8], form: Form, marks: &[u8], len: u32, out: &mut [u8]) -> usize
-    requires { ⌜ length (now marks) ≤ pointsMost ⌝ }
+pub(crate) fn lay_front(
+    pds: &[u8],
+    form: Form,
+    marks: &[u8],
+    n: u32,
+    len: u32,
+    out: &mut [u8],
+) -> usize
+    requires { ⌜ n ≤ pointsMost ⌝ }
     requires { ⌜ len < 2 ^ 24 ⌝ }
-    requires { ⌜ frontRoom (length (now pds)) form (length (now marks)) ≤ length (now out) ⌝ }
+    requires { ⌜ frontRoom (length (now pds)) form n ≤ length (now out) ⌝ }
     requires { ⌜ givenBad (form .grid) ≡ false ⌝ }
-    ensures { λ r. ⌜ r ≡ frontRoom (length (now (pds .entry))) form (length (now (marks .entry))) ⌝ }
-    ensures { λ _. ⌜ now (out .exit) ≡ placed (now (out .entry)) 0 (frontBy (now (pds .entry)) form (markOf (now (marks .entry))) (length (now (marks .entry))) len) ⌝ }
+    ensures { λ r. ⌜ r ≡ frontRoom (length (now (pds .entry))) form n ⌝ }
+    ensures { λ _. ⌜ now (out .exit) ≡ placed (now (out .entry)) 0 (frontBy (now (pds .entry)) form (markOf (now (marks .entry))) n len) ⌝ }
 {
     let grid = form.grid;
     let bitmap = form.bitmap;
     put_indicator(out, len);
-    copy(pds, out, 8);
-    let b = put_grid(out, 8 + pds.len(), grid);
-    put_bitmap(out, b, bitmap, marks)
+    copy(pds, out, PDS_START);
+    let b = put_grid(out, PDS_START + pds.len(), grid);
+    put_bitmap(out, b, bitmap, marks, n)
 }
 
 // What stands in a BDS before its data; octet 4 holds flags and unused bits.
 fn put_bds(out: &mut [u8], d: usize, len: u32, flags: u8, e: Signed, r: u32, bits: u8)
-    requires { ⌜ d + 11 ≤ length (now out) ⌝ }
+    requires { ⌜ d + bdsHead ≤ length (now out) ⌝ }
     requires { ⌜ len < 2 ^ 24 ⌝ }
-    requires { ⌜ natAbs (e .value) < 32768 ⌝ }
-    ensures { λ _. ⌜ now (out .exit) ≡ placed (now (out .entry)) d (laid (bdsFields len flags e r bits) []) ⌝ }
+    requires { ⌜ SignFree 2 e ⌝ }
+    ensures { λ _. ⌜ now (out .exit) ≡ placed (now (out .entry)) d (laid (scaleFields len flags e r bits) []) ⌝ }
 {
     put_three(out, d, 1, len);
     put_octet(out, d, 4, flags);
@@ -227,14 +222,14 @@ fn put_bds(out: &mut [u8], d: usize, len: u32, flags: u8, e: Signed, r: u32, bit
 pub(crate) fn put_head(packing: Packing, scale: Scale, m: u32, out: &mut [u8], d: usize)
     requires { ⌜ packing .bits ≤ bitsMost ⌝ }
     requires { ⌜ packing .flags ≤ 2 ⌝ }
-    requires { ⌜ natAbs (scale .e .value) < 32768 ⌝ }
+    requires { ⌜ SignFree 2 (scale .e) ⌝ }
     requires { ⌜ m ≤ pointsMost ⌝ }
     requires { ⌜ d + bdsRoom (packing .bits) m ≤ length (now out) ⌝ }
     ensures { λ _. ⌜ now (out .exit) ≡ placed (placed (now (out .entry)) d (headBy packing scale m)) (d + (bdsRoom (packing .bits) m - 1)) (octets 1 0) ⌝ }
 {
     let bits = packing.bits;
     let len = bds_room(bits, m);
-    let unused = 8 * (len - 11) - m as usize * bits as usize;
+    let unused = 8 * (len - BDS_OCTETS) - m as usize * bits as usize;
     let flags = packing.flags * 16 + unused as u8;
     put_bds(out, d, len as u32, flags, scale.e, scale.r, bits);
     put_octet(out, d + (len - 1), 1, 0);

@@ -10,8 +10,9 @@ mod rooms; // rooms.rt: how many octets each takes
 use grid::grid_bad;
 use laying::lay_front;
 use laying::put_head;
+use marks::count;
+use rooms::BDS_OCTETS;
 use rooms::message_room;
-use rooms::present;
 use rules::Form;
 use rules::Found;
 use rules::Scale;
@@ -35,16 +36,16 @@ fn given_bad(grid: Found) -> bool
     }
 }
 
-// Lays down all but the values of a message of a PDS, a form, E and R, and marks, of which 1 is present. Parts out of the rules' bounds, and
+// Lays down all but the values of a message of a PDS, a form, E and R, and the marks of n points, of which 1 is present. Parts out of the rules' bounds, and
 // octets that the whole message does not fit in, are left alone.
-pub fn lay(pds: &[u8], form: Form, scale: Scale, marks: &[u8], out: &mut [u8]) -> Frame
-    ensures { λ r. ⌜ r ≡ frameOf (now (pds .entry)) form scale (now (marks .entry)) (length (now (out .entry))) ⌝ }
-    ensures { λ _. ⌜ now (out .exit) ≡ framed (now (pds .entry)) form scale (now (marks .entry)) (now (out .entry)) ⌝ }
+pub fn lay(pds: &[u8], form: Form, scale: Scale, marks: &[u8], n: u32, out: &mut [u8]) -> Frame
+    ensures { λ r. ⌜ r ≡ frameOf (now (pds .entry)) form scale (now (marks .entry)) n (length (now (out .entry))) ⌝ }
+    ensures { λ _. ⌜ now (out .exit) ≡ framed (now (pds .entry)) form scale (now (marks .entry)) n (now (out .entry)) ⌝ }
 {
     let grid = form.grid;
     let packing = form.packing;
     if ((PDS_MOST as usize) < pds.len())
-        | ((POINTS_MOST as usize) < marks.len())
+        | (POINTS_MOST < n)
         | given_bad(grid)
         | scale_bad(scale, packing)
     {
@@ -54,8 +55,8 @@ pub fn lay(pds: &[u8], form: Form, scale: Scale, marks: &[u8], out: &mut [u8]) -
             len: 0,
         };
     }
-    let m = present(marks);
-    let len = message_room(pds.len(), form, marks.len() as u32, m);
+    let m = count(marks, n);
+    let len = message_room(pds.len(), form, n, m);
     if out.len() < len {
         return Frame {
             at: 0,
@@ -63,10 +64,10 @@ pub fn lay(pds: &[u8], form: Form, scale: Scale, marks: &[u8], out: &mut [u8]) -
             len: 0,
         };
     }
-    let d = lay_front(pds, form, marks, len as u32, out);
+    let d = lay_front(pds, form, marks, n, len as u32, out);
     put_head(packing, scale, m, out, d);
     Frame {
-        at: d + 11,
+        at: d + BDS_OCTETS,
         present: m,
         len: len as u32,
     }

@@ -1,17 +1,25 @@
-// How many octets each section of a message takes, and how many points are present.
+// How many octets each section of a message takes.
 ghost use mathlib.Core.Path.{_≡_};
-ghost use mathlib.Core.Bool.{cond};
 ghost use Prim.Native.Nat.{_+_, _^_, _<_, _≤_};
-ghost use lib.Dec.{eqb};
 ghost use lib.ListN.{length};
-ghost use Rattle.bits.specs.Bits.{octetsFor, count};
-ghost use Rattle.rules.specs.Bounds.{pdsMost, pointsMost, bitsMost};
-ghost use Rattle.rules.specs.Bitmap.{markOf};
+ghost use Rattle.bits.specs.Bits.{octetsFor};
+ghost use Rattle.rules.specs.Bounds.{bmsHead, pdsMost, pointsMost, bitsMost};
 ghost use Rattle.rules.specs.Numbers.{evenFrom};
-ghost use Rattle.sections.specs.Layout.{presentIn, gdsRoom, bmsRoom, bdsRoom, messageRoom};
+ghost use Rattle.sections.specs.Layout.{gdsRoom, bmsRoom, bdsRoom, messageRoom};
+use places::PDS_START;
 use rules::Bitmap;
 use rules::Form;
 use rules::Found;
+use rules::bounds::BDS_HEAD;
+use rules::bounds::BMS_HEAD;
+use rules::bounds::GDS_LENGTH;
+
+// The lengths of a GDS and of what stands before a section's bits, as places are counted.
+pub(crate) const GDS_OCTETS: usize = GDS_LENGTH as usize;
+
+pub(crate) const BMS_OCTETS: usize = BMS_HEAD as usize;
+
+pub(crate) const BDS_OCTETS: usize = BDS_HEAD as usize;
 
 // The least even length that holds c octets.
 fn even(c: usize) -> usize
@@ -27,15 +35,15 @@ fn gds_room(grid: Found) -> usize
 {
     match grid {
         Found::Nothing => 0,
-        Found::Given(_) => 32,
+        Found::Given(_) => GDS_OCTETS,
     }
 }
 
 // How many octets a BMS takes whose bits follow.
 pub(crate) fn carried_room(n: u32) -> usize
-    ensures { λ r. ⌜ r ≡ evenFrom (6 + octetsFor n) ⌝ }
+    ensures { λ r. ⌜ r ≡ evenFrom (bmsHead + octetsFor n) ⌝ }
 {
-    even(6 + (n as usize + 7) / 8)
+    even(BMS_OCTETS + (n as usize + 7) / 8)
 }
 
 fn bms_room(bitmap: Bitmap, n: u32) -> usize
@@ -44,7 +52,7 @@ fn bms_room(bitmap: Bitmap, n: u32) -> usize
     match bitmap {
         Bitmap::Without => 0,
         Bitmap::Carried => carried_room(n),
-        Bitmap::Stored(_) => 6,
+        Bitmap::Stored(_) => BMS_OCTETS,
     }
 }
 
@@ -54,7 +62,7 @@ pub(crate) fn bds_room(bits: u8, m: u32) -> usize
     requires { ⌜ m ≤ pointsMost ⌝ }
     ensures { λ r. ⌜ r ≡ bdsRoom bits m ⌝ }
 {
-    even(11 + (m as usize * bits as usize + 7) / 8)
+    even(BDS_OCTETS + (m as usize * bits as usize + 7) / 8)
 }
 
 // How many octets a message takes.
@@ -67,42 +75,7 @@ pub(crate) fn message_room(pds: usize, form: Form, n: u32, m: u32) -> usize
 {
     let grid = form.grid;
     let bitmap = form.bitmap;
-    8 + (pds + (gds_room(grid) + bms_room(bitmap, n))) + (bds_room(form.packing.bits, m) + 4)
-}
-
-fn one(mark: u8) -> u8
-    ensures { λ r. ⌜ r ≡ cond (eqb mark 1) 1 0 ⌝ }
-{
-    if mark == 1 {
-        return 1;
-    }
-    0
-}
-
-// How many of the c points from point p on the marks call present. So few that an octet counts them: the machine then takes many at once.
-fn some_present(marks: &[u8], p: usize, c: usize) -> u8
-    requires { ⌜ (p + c ≤ length (now marks)) × (c ≤ 255) ⌝ }
-    ensures { λ r. ⌜ r ≡ count (λ i. cond (eqb (markOf (now (marks .entry)) i) 1) 1 0) p c ⌝ }
-{
-    let mut m: u8 = 0;
-    let mut i: usize = 0;
-    while i < c {
-        m += one(marks[p + i]);
-        i += 1;
-    }
-    m
-}
-
-// How many points the marks call present.
-pub(crate) fn present(marks: &[u8]) -> u32
-    requires { ⌜ length (now marks) ≤ pointsMost ⌝ }
-    ensures { λ r. ⌜ r ≡ presentIn (now (marks .entry)) ⌝ }
-{
-    let mut m: u32 = 0;
-    let mut i: usize = 0;
-    while marks.len() - i >= 128 {
-        m += some_present(marks, i, 128) as u32;
-        i += 128;
-    }
-    m + some_present(marks, i, marks.len() - i) as u32
+    PDS_START
+        + (pds + (gds_room(grid) + bms_room(bitmap, n)))
+        + (bds_room(form.packing.bits, m) + 4)
 }

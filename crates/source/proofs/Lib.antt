@@ -1,3 +1,4 @@
 pub mod Reference
 pub mod Digits
+pub mod Blocks
 pub mod Field

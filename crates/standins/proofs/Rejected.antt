@@ -38,7 +38,7 @@ fixed-field h = eqb-false 0 1 refl (ap (λ (v : List ℕ). getD v 0 0) (h (set s
 -- the specimen's last point: 7, where the first value is 0
 first-repeated : ValuesAtPoints firstRepeated → ⊥
 unfolding computes
-first-repeated h = eqb-false 0 7 refl (h specimen nothing room room tt 3 (lit< tt) .here refl .3)
+first-repeated h = eqb-false 0 7 refl (h specimen nothing room room tt 3 (lit< tt) .here refl .2)
 
 -- the specimen has 4 points, 3 of them present
 count-invented : CountsPresent countInvented → ⊥
@@ -46,7 +46,7 @@ unfolding computes
 count-invented h = eqb-false 4 3 refl (h specimen nothing room room tt)
 
 grid-fits : GridFits (form .grid)
-grid-fits = (lit< tt, lit< tt, lit< tt, lit< tt, lit< tt, lit< tt)
+grid-fits = (record { ni = lit< tt; nj = lit< tt; scan = lit< tt }, record { flags = lit< tt; di = lit< tt; dj = lit< tt })
 
 -- the specimen's parts: what stood in the output is no message
 writes-nothing : ReadsBack writesNothing → ⊥

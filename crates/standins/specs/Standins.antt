@@ -7,6 +7,7 @@ use lib.IntN.{ℤ, pos, negsuc}
 use lib.ListN.{length, getD}
 use Rattle.bits.specs.Tables.{tab}
 use Rattle.rules.specs.declared.{Refusal.Refusal, Signed.Signed, Header.Header, Form.Form, Written.Written, Bitmap.the-variants.Carried}
+use Rattle.rules.specs.Numbers.{plain}
 use Rattle.rules.specs.Table.{refusal, filled}
 use Rattle.rules.specs.Places.{placesOf}
 use Rattle.rules.specs.Bitmap.{Lent}
@@ -29,22 +30,22 @@ abbrev pub marksKept : List ℕ → Lent → List ℕ → List ℕ → List ℕ
 marksKept s lent values marks = marks
 
 -- one fixed field, the specimen's, whatever the message is
-abbrev z : ℤ → Signed
-z v = record { value = v }
-
 abbrev pub fixedHeader : List ℕ → Lent → List ℕ → List ℕ → Header
 fixedHeader s lent values marks =
     record {
       refusal = refusal 0;
       places = record { pds = record { start = 8; len = 28 }; gds = record { start = 36; len = 32 }; bms = record { start = 68; len = 8 }; bds = record { start = 76; len = 14 } };
       time = record { year = 1998; month = 3; day = 10; hour = 6; minute = 0 };
-      d = z (pos 1);
-      grid = record { ni = 2; nj = 2; la1 = z (pos 50000); lo1 = z (negsuc 1999); flags = 128; la2 = z (pos 51000); lo2 = z (negsuc 999); di = 1000; dj = 1000; scan = 64 };
+      d = plain (pos 1);
+      grid = record {
+        shape = record { ni = 2; nj = 2; scan = 64 };
+        geometry = record { la1 = plain (pos 50000); lo1 = plain (negsuc 1999); flags = 128; la2 = plain (pos 51000); lo2 = plain (negsuc 999); di = 1000; dj = 1000 };
+      };
       points = 4;
       bitmap = Carried;
       present = 3;
       packing = record { flags = 0; bits = 3 };
-      scale = record { e = z (pos 0); r = 0x439c4000 };
+      scale = record { e = plain (pos 0); r = 0x439c4000 };
     }
 
 abbrev pub fixedValues : List ℕ → Lent → List ℕ → List ℕ → List ℕ

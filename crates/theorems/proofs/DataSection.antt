@@ -24,6 +24,7 @@ use Rattle.rules.specs.RoundTrip.{minusZero, dataPaddingSet}
 use Rattle.laws.proofs.Rows.{not-eq, is-eq}
 use Rattle.laws.proofs.Fields.{Fit, Back, all-back, after-fields, laid-append, stands, here, one}
 use Rattle.laws.proofs.Lengths.{dataLen, unused, dataFields, dataBits, bds-laid, bds-length}
+use Rattle.laws.specs.Signs.{SignFree}
 use Rattle.laws.proofs.Signs.{signed-read, spelled-lt, plus, signed-here}
 use Rattle.theorems.proofs.Laid.{Sec, whole-sec, partIs}
 
@@ -31,13 +32,13 @@ use Rattle.theorems.proofs.Laid.{Sec, whole-sec, partIs}
 pub record DataOk (p : Packing) (c : Scale) (xs : List ℕ) : Type 0 where
   pub flags : p .flags < 16
   pub bits : p .bits < 256
-  pub e : natAbs (c .e .value) < sign 2
+  pub e : SignFree 2 (c .e)
   pub r : c .r < 2 ^ 32
   pub few : length xs * p .bits ≤ pointsMost * bitsMost
   pub wide : Wide (p .bits) xs
 
 data-fit : (p : Packing) (c : Scale) (xs : List ℕ) → DataOk p c xs → Fit (dataFields p c (length xs * p .bits))
-data-fit p c xs o = (omega (arith, o .few), (omega (arith, o .flags), (spelled-lt 2 (sign 2 + sign 2) (c .e .value) refl (o .e), (o .r, (o .bits, tt)))))
+data-fit p c xs o = (omega (arith, o .few), (omega (arith, o .flags), (spelled-lt 2 (sign 2 + sign 2) (c .e) refl (o .e), (o .r, (o .bits, tt)))))
 
 pub bds-sec : (p : Packing) (c : Scale) (xs : List ℕ) → DataOk p c xs → Sec true bdsLeast (bdsOf p c xs)
 bds-sec p c xs o =
@@ -92,7 +93,7 @@ module _ (s : List ℕ) (k : ℕ) (p : Packing) (c : Scale) (xs rest : List ℕ)
       ∙ runs-own (p .bits) xs (length xs) (o .wide) (le-refl (length xs)) ∙ take-length xs
 
   pub scale-clean : minusZero s k 5 6 ≡ false
-  scale-clean = plus 2 (number s k 5 6) (c .e .value) (fields .2 .2 .0) (o .e)
+  scale-clean = plus 2 (number s k 5 6) (c .e) (fields .2 .2 .0) (o .e)
 
   pub data-clean : dataPaddingSet s k (length (bdsOf p c xs)) t ≡ false
   data-clean =

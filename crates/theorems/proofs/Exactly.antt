@@ -62,8 +62,10 @@ grid-fits : (b : Bool) (s : List ℕ) (k : ℕ) → Below 256 s → GridFits (co
 unfolding gridAt
 grid-fits false s k h = tt
 grid-fits true s k h =
-    let b = bitsIn-bits 8 s in
-    (run-lt b ((k + 6) * 8) 16, run-lt b ((k + 8) * 8) 16, h (k + 16), run-lt b ((k + 23) * 8) 16, run-lt b ((k + 25) * 8) 16, h (k + 27))
+    let b = bitsIn-bits 8 s in (
+      record { ni = run-lt b ((k + 6) * 8) 16; nj = run-lt b ((k + 8) * 8) 16; scan = h (k + 27) },
+      record { flags = h (k + 16); di = run-lt b ((k + 23) * 8) 16; dj = run-lt b ((k + 25) * 8) 16 },
+    )
 
 number-fits : (b : Bool) (s : List ℕ) (k : ℕ) → NumberFits (bitmapAt s b k)
 unfolding bitmapAt

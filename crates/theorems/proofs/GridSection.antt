@@ -7,50 +7,56 @@ use native.Mathlib.Omega.{arith}
 use borrow.Author.Tests.{eqb-false}
 use lib.ListN.{length, drop}
 use lib.Dec.{eqb}
-use lib.IntN.{natAbs}
 use Rattle.bits.proofs.Trip.{Wide}
-use Rattle.rules.specs.declared.{Part.Part, Grid.Grid, Found.Found, Found.the-variants.Nothing, Found.the-variants.Given}
+use Rattle.rules.specs.declared.{Signed.Signed, Part.Part, Grid.Grid, Found.Found, Found.the-variants.Nothing, Found.the-variants.Given}
 use Rattle.rules.specs.Bounds.{gdsLeast, gdsLength, latitudeMost, longitudeMost}
-use Rattle.rules.specs.Numbers.{octet, number, sign}
+use Rattle.rules.specs.Numbers.{octet, number, sign, spelled}
 use Rattle.rules.specs.Table.{anyOf}
 use Rattle.rules.specs.Grid.{gridAt, gridFields, gdsOf, gridFrom, lookup, catalogue, theGrid, gdsFaults, gridFaults}
 use Rattle.rules.specs.Writing.{gridGiven, gdsFor}
 use Rattle.rules.specs.RoundTrip.{minusZero}
-use Rattle.theorems.specs.Returns.{GridFits}
+use Rattle.theorems.specs.Returns.{ShapeFits, GeometryFits, GridFits}
 use Rattle.laws.proofs.Rows.{none-of, any-none, not-eq, is-eq}
 use Rattle.laws.proofs.Sections.{Cut}
 use Rattle.laws.proofs.Fields.{Fit, Back, all-back, laid-append, stands, here, one, absent-here}
 use Rattle.laws.proofs.Lengths.{gds-laid, gds-length}
 use Rattle.laws.proofs.Whole.{within}
+use Rattle.laws.specs.Signs.{SignFree}
 use Rattle.laws.proofs.Signs.{signed-read, spelled-lt, plus, signed-here}
 use Rattle.theorems.proofs.Laid.{Sec, empty-sec, whole-sec, partIs}
 
 -- what of a grid the writer's row 9 and the fields' types leave
 pub record GridOk (g : Grid) : Type 0 where
-  pub fits : GridFits (Given g)
-  pub la1 : natAbs (g .la1 .value) < sign 3
-  pub lo1 : natAbs (g .lo1 .value) < sign 3
-  pub la2 : natAbs (g .la2 .value) < sign 3
-  pub lo2 : natAbs (g .lo2 .value) < sign 3
+  pub shape : ShapeFits (g .shape)
+  pub geometry : GeometryFits (g .geometry)
+  pub la1 : SignFree 3 (g .geometry .la1)
+  pub lo1 : SignFree 3 (g .geometry .lo1)
+  pub la2 : SignFree 3 (g .geometry .la2)
+  pub lo2 : SignFree 3 (g .geometry .lo2)
 
 grid-ok : (g : Grid) → GridFits (Given g) → anyOf (gridFaults g) ≡ false → GridOk g
 unfolding gridFaults
 grid-ok g f e =
+    let a = g .geometry in
     let h = none-of (gridFaults g) e .1 .1 .1 in
     record {
-      fits = f;
-      la1 = omega (arith, within latitudeMost (g .la1 .value) (h .0));
-      la2 = omega (arith, within latitudeMost (g .la2 .value) (h .1 .0));
-      lo1 = omega (arith, within longitudeMost (g .lo1 .value) (h .1 .1 .0));
-      lo2 = omega (arith, within longitudeMost (g .lo2 .value) (h .1 .1 .1 .0));
+      shape = f .0;
+      geometry = f .1;
+      la1 = omega (arith, within latitudeMost (a .la1 .value) (h .0));
+      la2 = omega (arith, within latitudeMost (a .la2 .value) (h .1 .0));
+      lo1 = omega (arith, within longitudeMost (a .lo1 .value) (h .1 .1 .0));
+      lo2 = omega (arith, within longitudeMost (a .lo2 .value) (h .1 .1 .1 .0));
     }
 
 grid-fit : (g : Grid) → GridOk g → Fit (gridFields g)
 unfolding gridFields
 grid-fit g o =
-    let f = o .fits in
+    let f = o .shape in
+    let a = o .geometry in
     let top = sign 3 + sign 3 in
-    (omega arith, (omega arith, (omega arith, (omega arith, (f .0, (f .1, (spelled-lt 3 top (g .la1 .value) refl (o .la1), (spelled-lt 3 top (g .lo1 .value) refl (o .lo1), (f .2, (spelled-lt 3 top (g .la2 .value) refl (o .la2), (spelled-lt 3 top (g .lo2 .value) refl (o .lo2), (f .3, (f .4, (f .5, (omega arith, tt)))))))))))))))
+    let c = g .geometry in
+    let fits : (z : Signed) → SignFree 3 z → spelled 3 z < top = λ z. spelled-lt 3 top z refl in
+    (omega arith, (omega arith, (omega arith, (omega arith, (f .ni, (f .nj, (fits (c .la1) (o .la1), (fits (c .lo1) (o .lo1), (a .flags, (fits (c .la2) (o .la2), (fits (c .lo2) (o .lo2), (a .di, (a .dj, (f .scan, (omega arith, tt)))))))))))))))
 
 gds-sec : (g : Grid) → GridOk g → Sec true gdsLeast (gdsOf g)
 unfolding gridFields
@@ -77,17 +83,18 @@ module _ (s : List ℕ) (k : ℕ) (g : Grid) (rest : List ℕ) (e : drop k s ≡
       let b = fields .2 .2 .2 .2 in
       let c = b .2 .2 .2 .2 in
       let d = c .2 .2 .2 in
+      let a = g .geometry in
       λ i. record {
-        ni = b .0 i;
-        nj = b .2 .0 i;
-        la1 = signed-read 3 _ (g .la1) (b .2 .2 .0) (o .la1) i;
-        lo1 = signed-read 3 _ (g .lo1) (b .2 .2 .2 .0) (o .lo1) i;
-        flags = c .1 refl i;
-        la2 = signed-read 3 _ (g .la2) (c .2 .0) (o .la2) i;
-        lo2 = signed-read 3 _ (g .lo2) (c .2 .2 .0) (o .lo2) i;
-        di = d .0 i;
-        dj = d .2 .0 i;
-        scan = d .2 .2 .1 refl i;
+        shape = record { ni = b .0 i; nj = b .2 .0 i; scan = d .2 .2 .1 refl i };
+        geometry = record {
+          la1 = signed-read 3 _ (a .la1) (b .2 .2 .0) (o .la1) i;
+          lo1 = signed-read 3 _ (a .lo1) (b .2 .2 .2 .0) (o .lo1) i;
+          flags = c .1 refl i;
+          la2 = signed-read 3 _ (a .la2) (c .2 .0) (o .la2) i;
+          lo2 = signed-read 3 _ (a .lo2) (c .2 .2 .0) (o .lo2) i;
+          di = d .0 i;
+          dj = d .2 .0 i;
+        };
       }
 
   gds-none : anyOf (gdsFaults s (partIs k (gdsOf g))) ≡ false
@@ -103,10 +110,10 @@ module _ (s : List ℕ) (k : ℕ) (g : Grid) (rest : List ℕ) (e : drop k s ≡
       let c = b .2 .2 .2 .2 in
       record {
         reserved = not-eq _ _ (c .2 .2 .2 .2 .2 .2 .0);
-        la1 = plus 3 _ (g .la1 .value) (b .2 .2 .0) (o .la1);
-        lo1 = plus 3 _ (g .lo1 .value) (b .2 .2 .2 .0) (o .lo1);
-        la2 = plus 3 _ (g .la2 .value) (c .2 .0) (o .la2);
-        lo2 = plus 3 _ (g .lo2 .value) (c .2 .2 .0) (o .lo2);
+        la1 = plus 3 _ (g .geometry .la1) (b .2 .2 .0) (o .la1);
+        lo1 = plus 3 _ (g .geometry .lo1) (b .2 .2 .2 .0) (o .lo1);
+        la2 = plus 3 _ (g .geometry .la2) (c .2 .0) (o .la2);
+        lo2 = plus 3 _ (g .geometry .lo2) (c .2 .2 .0) (o .lo2);
       }
 
 -- a grid, or none

@@ -25,7 +25,7 @@ use Rattle.rules.specs.Grid.{gridAt, gridFrom, gridMissing, theGrid, gdsFaults,
 use Rattle.rules.specs.Bitmap.{Lent, bitmapAt, lentFaults, bitmapFaults, bitmapGiven, inForce, bitmapOctets, presentBy}
 use Rattle.rules.specs.Points.{valueAt, scattered}
 use Rattle.rules.specs.Values.{packingAt, scaleAt, packingFaults, lengthBad, valuesAt}
-use Rattle.rules.specs.Reading.{gridIn, gridOf, pointsIn, bitmapIn, inForceIn, presentIn, presentCount, packingIn, scaleIn, valuesIn, marksIn}
+use Rattle.rules.specs.Reading.{gridIn, gridOf, pointsIn, bitmapIn, inForceIn, presentIn, presentCount, packingIn, scaleIn, dataIn, valuesIn, marksIn}
 use Rattle.rules.specs.RoundTrip.{partsIn}
 use Rattle.laws.specs.Taken.{Taken}
 use Rattle.theorems.specs.Returns.{Below, Ignored, reserved, bitmap, padding, PaddingIgnored}
@@ -175,16 +175,16 @@ module _ (s o : List ℕ) (lent : Lent) (ws : Below 256 s) (wo : Below 256 o) (l
   grid-same h =
       let at : (k c : ℕ) → k + c ≤ 28 → run (bitsIn 8 o) ((G + k) * 8) (c * 8) ≡ run (bitsIn 8 s) ((G + k) * 8) (c * 8) = λ k c l. grid-bits h ((G + k) * 8) (c * 8) (omega arith) in
       λ i. record {
-        ni = at 6 2 (omega arith) i;
-        nj = at 8 2 (omega arith) i;
-        la1 = signed 3 (at 10 3 (omega arith) i);
-        lo1 = signed 3 (at 13 3 (omega arith) i);
-        flags = grid-octet h 16 (omega arith) i;
-        la2 = signed 3 (at 17 3 (omega arith) i);
-        lo2 = signed 3 (at 20 3 (omega arith) i);
-        di = at 23 2 (omega arith) i;
-        dj = at 25 2 (omega arith) i;
-        scan = grid-octet h 27 (omega arith) i;
+        shape = record { ni = at 6 2 (omega arith) i; nj = at 8 2 (omega arith) i; scan = grid-octet h 27 (omega arith) i };
+        geometry = record {
+          la1 = signed 3 (at 10 3 (omega arith) i);
+          lo1 = signed 3 (at 13 3 (omega arith) i);
+          flags = grid-octet h 16 (omega arith) i;
+          la2 = signed 3 (at 17 3 (omega arith) i);
+          lo2 = signed 3 (at 20 3 (omega arith) i);
+          di = at 23 2 (omega arith) i;
+          dj = at 25 2 (omega arith) i;
+        };
       }
 
   grid-in : gridIn o ≡ gridIn s
@@ -261,19 +261,16 @@ module _ (s o : List ℕ) (lent : Lent) (ws : Below 256 s) (wo : Below 256 o) (l
       let r = data-bits ((D + 6) * 8) 32 (omega arith) (omega arith) in
       ap (λ (p : Places). scaleAt o (p .bds .start)) places-same ∙ (λ i. record { e = signed 2 (e i); r = r i })
 
-  abbrev xs : List ℕ → List ℕ
-  xs x = valuesAt x D (packingIn s .bits) (presentCount s lent)
-
-  xs-same : xs o ≡ xs s
-  unfolding valuesAt
-  xs-same = runs-ext (bitsIn 8 o) (bitsIn 8 s) ((D + 11) * 8) ((D + 11) * 8) (packingIn s .bits) (presentCount s lent) (λ i l. data-bit ((D + 11) * 8 + i) (omega arith) (omega arith))
+  data-same : dataIn o lent ≡ dataIn s lent
+  unfolding dataIn valuesAt
+  data-same = (λ i. valuesAt o (places-same i .bds .start) (packing-same i .bits) (present-count i)) ∙ runs-ext (bitsIn 8 o) (bitsIn 8 s) ((D + 11) * 8) ((D + 11) * 8) (packingIn s .bits) (presentCount s lent) (λ i l. data-bit ((D + 11) * 8 + i) (omega arith) (omega arith))
 
   values-same : valuesIn o lent ≡ valuesIn s lent
   unfolding valuesIn scattered valueAt
   values-same =
-      (λ i. scattered (presentIn o lent) (valuesAt o (places-same i .bds .start) (packing-same i .bits) (present-count i)) (points-same i))
-      ∙ ap (λ (x : List ℕ). scattered (presentIn o lent) x n) xs-same
-      ∙ tab-ext (valueAt (presentIn o lent) (xs s)) (valueAt (presentIn s lent) (xs s)) n (λ k l i. cond (eqb (present-same k l i) 1) (getD (xs s) (count-upto k (omega arith) i) 0) 0)
+      (λ i. scattered (presentIn o lent) (data-same i) (points-same i))
+      ∙ tab-ext (valueAt (presentIn o lent) (dataIn s lent)) (valueAt (presentIn s lent) (dataIn s lent)) n
+      (λ k l i. cond (eqb (present-same k l i) 1) (getD (dataIn s lent) (count-upto k (omega arith) i) 0) 0)
 
   marks-same : marksIn o lent ≡ marksIn s lent
   unfolding marksIn

@@ -21,7 +21,7 @@ use Rattle.rules.specs.Table.{refusal, accepted, anyOf}
 use Rattle.rules.specs.Places.{hasGrid, hasBitmap}
 use Rattle.rules.specs.Time.{timeFaults}
 use Rattle.rules.specs.Grid.{gridMissing, theGrid, gridFaults, pointsOf}
-use Rattle.rules.specs.Bitmap.{Lent, bitmapGiven, markOf, valueOf, lentFaults}
+use Rattle.rules.specs.Bitmap.{Lent, bitmapGiven, markOf, marksLong, valueOf, lentFaults}
 use Rattle.rules.specs.Points.{gathered}
 use Rattle.rules.specs.Values.{packingFaults}
 use Rattle.rules.specs.Writing.{Parts, gridFor, pointsFor, pdsFaults, listsFit, storedFaults, gridGiven, pointBad, differ, partsFaults, message, writeTable, writeRefusal}
@@ -32,7 +32,7 @@ use Rattle.laws.proofs.Rows.{NoneOf, clear, accepts, none-of, any-none, and-fal
 use Rattle.laws.proofs.Whole.{within}
 use Rattle.theorems.proofs.Laid.{Sec, whole-sec}
 use Rattle.laws.proofs.Gathered.{length-gathered, wide-gathered}
-use Rattle.laws.proofs.Points.{flags-two, PointOk, point-ok}
+use Rattle.laws.proofs.Points.{flags-two, PointOk, point-ok, even-marks}
 use Rattle.theorems.proofs.DataSection.{DataOk}
 use Rattle.theorems.proofs.BitmapSection.{MapOk}
 
@@ -115,26 +115,30 @@ module _ (w : Parts) (out : List ℕ) (nf : NumberFits (w .form .bitmap)) (rf : 
 
   pub values-long : length (w .values) ≡ pointsFor w
   unfolding listsFit
-  values-long = eqb-true _ _ (both (eqb (length (w .values)) (pointsFor w)) (eqb (length (w .marks)) (pointsFor w)) fit .0)
+  values-long = eqb-true _ _ (both (eqb (length (w .values)) (pointsFor w)) (eqb (length (w .marks)) (marksLong (pointsFor w))) fit .0)
 
-  pub marks-long : length (w .marks) ≡ pointsFor w
+  pub marks-long : length (w .marks) ≡ marksLong (pointsFor w)
   unfolding listsFit
-  marks-long = eqb-true _ _ (both (eqb (length (w .values)) (pointsFor w)) (eqb (length (w .marks)) (pointsFor w)) fit .1)
+  marks-long = eqb-true _ _ (both (eqb (length (w .values)) (pointsFor w)) (eqb (length (w .marks)) (marksLong (pointsFor w))) fit .1)
 
   point : (i : ℕ) → i < pointsFor w → PointOk (bitmapGiven (w .form .bitmap)) (w .form .packing .bits) (markOf (w .marks) i) (valueOf (w .values) i)
   unfolding partsFaults
-  point i l = point-ok _ _ _ _ (none-below (λ i. pointBad (bitmapGiven (w .form .bitmap)) (w .form .packing .bits) (markOf (w .marks) i) (valueOf (w .values) i)) (pointsFor w) (none-of _ (o .parts) .1 .0) i l)
+  point i l = point-ok _ _ _ _ (none-below (λ i. pointBad (bitmapGiven (w .form .bitmap)) (w .form .packing .bits) (markOf (w .marks) i) (valueOf (w .values) i)) (pointsFor w) (none-of _ (o .parts) .1 .1 .0) i l)
+
+  mark-lt : (i : ℕ) → i < pointsFor w → markOf (w .marks) i < 2
+  unfolding partsFaults
+  mark-lt = even-marks (w .marks) (pointsFor w) (none-of _ (o .parts) .1 .0)
 
   pub absent-zero : (i : ℕ) → i < pointsFor w → markOf (w .marks) i ≡ 0 → valueOf (w .values) i ≡ 0
   absent-zero i l z = point i l .absent z .1
 
   pub has-grid : hasGrid (w .pds) 0 ≡ gridGiven (w .form .grid)
   unfolding partsFaults
-  has-grid = same _ _ (none-of _ (o .parts) .1 .1 .0)
+  has-grid = same _ _ (none-of _ (o .parts) .1 .1 .1 .0)
 
   pub has-bitmap : hasBitmap (w .pds) 0 ≡ bitmapGiven (w .form .bitmap)
   unfolding partsFaults
-  has-bitmap = same _ _ (none-of _ (o .parts) .1 .1 .1 .0)
+  has-bitmap = same _ _ (none-of _ (o .parts) .1 .1 .1 .1 .0)
 
   -- a list n long is 0 past its end
   past : (xs : List ℕ) (top i : ℕ) → length xs ≡ pointsFor w → 0 < top → (i < pointsFor w → valueOf xs i < top) → valueOf xs i < top
@@ -143,10 +147,10 @@ module _ (w : Parts) (out : List ℕ) (nf : NumberFits (w .form .bitmap)) (rf : 
       (lt-or-ge i (pointsFor w))
 
   pub mark-bits : Bits (markOf (w .marks))
-  mark-bits i = past (w .marks) 2 i marks-long (omega arith) (λ l. point i l .mark)
+  mark-bits i = past (w .marks) 2 i marks-long (omega arith) (mark-lt i)
 
   pub map-ok : MapOk (w .form .bitmap) (w .lent) (markOf (w .marks)) (pointsFor w)
-  map-ok = map-of (w .form .bitmap) (w .lent) (w .values) (w .marks) (pointsFor w) nf fit (o .stored) (λ i l. (point i l .mark, λ z. point i l .absent z .0))
+  map-ok = map-of (w .form .bitmap) (w .lent) (w .values) (w .marks) (pointsFor w) nf fit (o .stored) (λ i l. (mark-lt i l, λ z. point i l .absent z .0))
 
   pub data-ok : DataOk (w .form .packing) (w .scale) (gathered (markOf (w .marks)) (valueOf (w .values)) (pointsFor w))
   data-ok =

@@ -7,8 +7,8 @@ use native.Mathlib.Nat.{mul-comm, mod-lt, div-add-mod', div-lt-iff-lt-mul}
 use borrow.Author.Tests.{lt-ltb, ltb-true}
 use lib.Dec.{ltb}
 use lib.Arith.{digits-lt, digits-div, digits-mod}
-use Rattle.rules.specs.declared.{GridPoint.GridPoint, Spot.Spot, Charted.the-variants.On, Charted.the-variants.Off, Pointed.the-variants.At, Pointed.the-variants.Off as Nowhere}
-use Rattle.rules.specs.Chart.{west, north, byColumn, turned, spotOf, pointOf, charted, pointed}
+use Rattle.rules.specs.declared.{Shape.Shape, GridPoint.GridPoint, Spot.Spot, Charted.the-variants.On, Charted.the-variants.Off, Pointed.the-variants.At, Pointed.the-variants.Off as Nowhere}
+use Rattle.rules.specs.Chart.{west, north, byColumn, turned, spotOf, pointOf, pointsOn, rowsOn, rowLong, spotOn, pointOn, charted, pointed}
 use Rattle.theorems.specs.Reads.{ChartDrawn, PlacePoint, PlacePointAnswers}
 use Rattle.bits.proofs.Products.{left-positive, right-positive}
 use Rattle.bits.proofs.Tests.{both}
@@ -72,7 +72,7 @@ module _ (ni nj scan : ℕ) where
       (h .0, λ t. record { row = r t; column = k t })
 
 pub place-point : PlacePoint
-place-point ni nj scan = (there ni nj scan, back ni nj scan)
+place-point g = (there (g .ni) (g .nj) (g .scan), back (g .ni) (g .nj) (g .scan))
 
 -- as answered: on the chart exactly where its number is a point's
 on-is : (b : Bool) (x c : Spot) → cond b (On x) Off ≡ On c → (b ≡ true) × (x ≡ c)
@@ -83,33 +83,35 @@ at-is : (b : Bool) (x k : GridPoint) → cond b (At x) Nowhere ≡ At k → (b �
 at-is true x k e = (refl, cc)
 at-is false x k e = absurd (let z : _≡_ {A = ℕ} 0 1 = cc in omega arith)
 
-module _ (ni nj scan : ℕ) (k : GridPoint) (c : Spot) where
-  on-chart : spotOf ni nj scan (k .0) ≡ c → k .0 < ni * nj → charted ni nj scan k ≡ On c
+module _ (g : Shape) (k : GridPoint) (c : Spot) where
+  on-chart : spotOn g (k .0) ≡ c → k .0 < pointsOn g → charted g k ≡ On c
   unfolding charted
-  on-chart e l = ap (λ (b : Bool). cond b (On (spotOf ni nj scan (k .0))) Off) (lt-ltb (k .0) (ni * nj) l) ∙ ap On e
+  on-chart e l = ap (λ (b : Bool). cond b (On (spotOn g (k .0))) Off) (lt-ltb (k .0) (pointsOn g) l) ∙ ap On e
 
-  at-point : pointOf ni nj scan c ≡ k .0 → c .row < nj → c .column < ni → pointed ni nj scan c ≡ At k
+  at-point : pointOn g c ≡ k .0 → c .row < rowsOn g → c .column < rowLong g (c .row) → pointed g c ≡ At k
   unfolding pointed
   at-point e r l =
-      let a = lt-ltb (c .row) nj r in
-      let b = lt-ltb (c .column) ni l in
+      let a = lt-ltb (c .row) (rowsOn g) r in
+      let b = lt-ltb (c .column) (rowLong g (c .row)) l in
       λ i. cond (a i && b i) (At (record { 0 = e i })) Nowhere
 
-  to : charted ni nj scan k ≡ On c → pointed ni nj scan c ≡ At k
+  to : charted g k ≡ On c → pointed g c ≡ At k
   unfolding charted
   to e =
-      let h = on-is (ltb (k .0) (ni * nj)) (spotOf ni nj scan (k .0)) c e in
-      let q = place-point ni nj scan .0 (k .0) (ltb-true (k .0) (ni * nj) (h .0)) in
-      at-point (ap (pointOf ni nj scan) (sym (h .1)) ∙ q .2) (subst (λ (x : Spot). x .row < nj) (h .1) (q .0)) (subst (λ (x : Spot). x .column < ni) (h .1) (q .1))
+      let h = on-is (ltb (k .0) (pointsOn g)) (spotOn g (k .0)) c e in
+      let q = place-point g .0 (k .0) (ltb-true (k .0) (pointsOn g) (h .0)) in
+      at-point (ap (pointOn g) (sym (h .1)) ∙ q .2)
+      (subst (λ (x : Spot). x .row < rowsOn g) (h .1) (q .0))
+      (subst (λ (x : Spot). x .column < rowLong g (x .row)) (h .1) (q .1))
 
-  from : pointed ni nj scan c ≡ At k → charted ni nj scan k ≡ On c
+  from : pointed g c ≡ At k → charted g k ≡ On c
   unfolding pointed
   from e =
-      let h = at-is (ltb (c .row) nj && ltb (c .column) ni) (record { 0 = pointOf ni nj scan c }) k e in
-      let b = both (ltb (c .row) nj) (ltb (c .column) ni) (h .0) in
-      let q = place-point ni nj scan .1 c (ltb-true (c .row) nj (b .0)) (ltb-true (c .column) ni (b .1)) in
-      let same : pointOf ni nj scan c ≡ k .0 = ap (λ (x : GridPoint). x .0) (h .1) in
-      on-chart (ap (spotOf ni nj scan) (sym same) ∙ q .1) (subst (λ (x : ℕ). x < ni * nj) same (q .0))
+      let h = at-is (ltb (c .row) (rowsOn g) && ltb (c .column) (rowLong g (c .row))) (record { 0 = pointOn g c }) k e in
+      let b = both (ltb (c .row) (rowsOn g)) (ltb (c .column) (rowLong g (c .row))) (h .0) in
+      let q = place-point g .1 c (ltb-true (c .row) (rowsOn g) (b .0)) (ltb-true (c .column) (rowLong g (c .row)) (b .1)) in
+      let same : pointOn g c ≡ k .0 = ap (λ (x : GridPoint). x .0) (h .1) in
+      on-chart (ap (spotOn g) (sym same) ∙ q .1) (subst (λ (x : ℕ). x < pointsOn g) same (q .0))
 
 pub place-point-answers : PlacePointAnswers
-place-point-answers ni nj scan k c = (to ni nj scan k c, from ni nj scan k c)
+place-point-answers g k c = (to g k c, from g k c)

@@ -1,4 +1,4 @@
--- Demand 2 at every point: the value that reading hands out at a present point stands among the data by the count of ones before it, and is 0 at an absent one; from the definitions, and row 12 for the bound.
+-- Demand 2 at every point: the value that reading hands out at a present point stands among the data by the count of ones before it, and is 0 at an absent one; and the k-th of the data at its bit place. From the definitions.
 use Prim.Native.Nat.{ℕ, zero, suc, _+_, _-_, _*_, _%_, _≤_, _<_}
 use mathlib.Core.Bool.{Bool, cond}
 use mathlib.Core.Path.{_≡_, refl, _∙_, ap}
@@ -6,23 +6,25 @@ use mathlib.Core.List.{List}
 use native.Mathlib.Omega.{arith}
 use borrow.Author.Tests.{lt-ltb, eq-eqb, ne-eqb}
 use lib.Dec.{eqb}
-use lib.ListN.{length}
-use Rattle.bits.specs.Bits.{bitsIn, run, count}
+use lib.ListN.{getD}
+use Rattle.bits.specs.Bits.{bitsIn, count}
 use Rattle.bits.proofs.Runs.{next-le}
 use Rattle.bits.proofs.Trip.{getD-runs}
 use Rattle.rules.specs.declared.{Bitmap.Bitmap, Bitmap.the-variants.Without}
 use Rattle.rules.specs.Table.{accepted}
+use Rattle.rules.specs.Bounds.{bdsHead}
 use Rattle.rules.specs.Numbers.{octet}
 use Rattle.rules.specs.Places.{placesOf}
 use Rattle.rules.specs.Bitmap.{Lent, bitmapOctets, bitmapGiven, presentBy}
 use Rattle.rules.specs.Points.{numbered, absent, outside, dataNumber, valueAt, scattered}
 use Rattle.rules.specs.Values.{lengthBad, valuesAt}
-use Rattle.rules.specs.Reading.{ownRefusal, bitmapIn, inForceIn, pointsIn, presentIn, presentCount, packingIn, valuesIn, marksIn, foundBy, foundIn, refusedBy, answerBy, headerOf, readRefusal, valuesAfter, marksAfter, numberingOf}
+use Rattle.rules.specs.Reading.{ownRefusal, bitmapIn, inForceIn, pointsIn, presentIn, presentCount, packingIn, dataIn, valuesIn, marksIn, foundBy, foundIn, refusedBy, answerBy, headerOf, readRefusal, valuesAfter, marksAfter, numberingOf}
 use Rattle.laws.specs.Taken.{Taken}
-use Rattle.theorems.specs.Reads.{OwnNumber, ValueAtPoint, ReadKeeps, PresentCounted}
+use Rattle.theorems.specs.Reads.{OwnNumber, ValueAtPoint, PackedSimply, ReadKeeps, PresentCounted}
 use Rattle.laws.proofs.Rows.{is-true, is-eq}
 use Rattle.theorems.proofs.Lists.{filled-at, filled-after}
-use Rattle.laws.proofs.Judged.{judged, read-taken}
+use Rattle.laws.proofs.Judged.{read-taken}
+use Rattle.laws.proofs.Data.{data-at, data-inside}
 use Rattle.theorems.proofs.BitmapSection.{present-bits}
 use Rattle.laws.proofs.Gathered.{number-lt, value-there, value-away}
 
@@ -30,11 +32,8 @@ module _ (s : List ℕ) (lent : Lent) (t : Taken s lent) (i : ℕ) (l : i < poin
   abbrev p : ℕ → ℕ
   p = presentIn s lent
 
-  abbrev N : ℕ
-  N = packingIn s .bits
-
   abbrev xs : List ℕ
-  xs = valuesAt s (placesOf s .bds .start) N (presentCount s lent)
+  xs = dataIn s lent
 
   numbering : numberingOf s lent i ≡ cond (eqb (p i) 1) (numbered (count p 0 i)) absent
   unfolding numberingOf dataNumber
@@ -48,22 +47,22 @@ module _ (s : List ℕ) (lent : Lent) (t : Taken s lent) (i : ℕ) (l : i < poin
 
   here : p i ≡ 1
       → let k = count p 0 i in
-      (numberingOf s lent i ≡ numbered k) × (k < presentCount s lent) × (k * N + N ≤ 8 * (placesOf s .bds .len - 11))
-      × (valueAt p xs i ≡ run (bitsIn 8 s) ((placesOf s .bds .start + 11) * 8 + k * N) N)
-  unfolding presentCount valuesAt lengthBad
+      (numberingOf s lent i ≡ numbered k) × (k < presentCount s lent) × (valueAt p xs i ≡ getD xs k 0)
+  unfolding presentCount
   here one =
-      let k = count p 0 i in
-      let lt : k < presentCount s lent = number-lt p i (pointsIn s) one l in (
+      let k = count p 0 i in (
         numbering ∙ ap (λ (b : Bool). cond b (numbered k) absent) (eq-eqb (p i) 1 one),
-        lt,
-        omega (arith, next-le k (presentCount s lent) N lt, is-eq (8 * (placesOf s .bds .len - 11)) (presentCount s lent * N + octet s (placesOf s .bds .start) 4 % 16) (judged s lent t .length)),
-        value-there p xs i one ∙ getD-runs (bitsIn 8 s) ((placesOf s .bds .start + 11) * 8) N (presentCount s lent) k lt,
+        number-lt p i (pointsIn s) one l,
+        value-there p xs i one,
       )
 
   away : p i ≡ 0 → (numberingOf s lent i ≡ absent) × (valueAt p xs i ≡ 0)
   away none =
       let not-one : p i ≡ 1 → ⊥ = λ e. omega arith in
       (numbering ∙ ap (λ (b : Bool). cond b (numbered (count p 0 i)) absent) (ne-eqb (p i) 1 not-one), value-away p xs i not-one)
+
+pub packed-simply : PackedSimply
+packed-simply s lent t k l = record { inside = data-inside s lent t k l; is = data-at s lent k l }
 
 -- with no bitmap every point is one
 all-ones : (m : Bitmap) (o : List ℕ) → m ≡ Without → (i : ℕ) → presentBy m o i ≡ 1
@@ -94,7 +93,7 @@ value-at-point s lent values marks t i l =
     record {
       bit = bit s lent own i l;
       mark = filled-at r (presentIn s lent) (pointsIn s) marks i t l;
-      here = λ e. let h = here s lent own i l e in (h .0, h .1, h .2, v ∙ h .3);
+      here = λ e. let h = here s lent own i l e in (h .0, h .1, v ∙ h .2);
       away = λ e. let h = away s lent own i l e in (h .0, v ∙ h .1);
     }
 

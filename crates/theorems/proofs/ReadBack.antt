@@ -18,7 +18,7 @@ use Rattle.rules.specs.Grid.{gridAt, gridFrom, gridMissing, theGrid, gdsFaults,
 use Rattle.rules.specs.Bitmap.{bitmapGiven, markOf, valueOf, bitmapAt, bitmapFaults, inForce, bitmapOctets, presentBy, bmsOf}
 use Rattle.rules.specs.Points.{gathered, scattered}
 use Rattle.rules.specs.Values.{packingAt, scaleAt, packingFaults, lengthBad, valuesAt, bdsOf}
-use Rattle.rules.specs.Reading.{gridIn, gridOf, pointsIn, bitmapIn, inForceIn, presentIn, presentCount, packingIn, scaleIn, valuesIn, marksIn, ownRefusal}
+use Rattle.rules.specs.Reading.{gridIn, gridOf, pointsIn, bitmapIn, inForceIn, presentIn, presentCount, packingIn, scaleIn, dataIn, valuesIn, marksIn, ownRefusal}
 use Rattle.rules.specs.Writing.{Parts, gridFor, pointsFor, gridGiven, gdsFor, sectionsFor, message, writeRefusal}
 use Rattle.rules.specs.RoundTrip.{partsIn}
 use Rattle.laws.specs.Taken.{Taken}
@@ -168,11 +168,16 @@ module _ (w : Parts) (out : List ℕ) (gf : GridFits (w .form .grid)) (nf : Numb
   unfolding scaleIn
   scale-in = ap (λ (x : Places). scaleAt s (x .bds .start)) places ∙ scale-back s _ (w .form .packing) (w .scale) (packedFor w) _ stands-d data-fine
 
+  data-in : dataIn s (w .lent) ≡ packedFor w
+  unfolding dataIn
+  data-in =
+      (λ i. valuesAt s (places i .bds .start) (packing-in i .bits) (present-count i))
+      ∙ values-back s _ (w .form .packing) (w .scale) (packedFor w) _ stands-d data-fine
+
   values-in : valuesIn s (w .lent) ≡ w .values
   unfolding valuesIn
   values-in =
-      (λ i. scattered (presentIn s (w .lent)) (valuesAt s (places i .bds .start) (packing-in i .bits) (present-count i)) (points-in i))
-      ∙ ap (λ (x : List ℕ). scattered (presentIn s (w .lent)) x (pointsFor w)) (values-back s _ (w .form .packing) (w .scale) (packedFor w) _ stands-d data-fine)
+      (λ i. scattered (presentIn s (w .lent)) (data-in i) (points-in i))
       ∙ scattered-back (presentIn s (w .lent)) (marksFor w) (w .values) (pointsFor w) marks-bits (offer.values-long w out nf rf told) present-in (offer.absent-zero w out nf rf told)
 
   marks-in : marksIn s (w .lent) ≡ w .marks

@@ -24,8 +24,8 @@ use Rattle.rules.specs.Places.{pdsStart, hasGrid, sectionAt, placesOf}
 use Rattle.rules.specs.Grid.{gridAt, gridMissing, theGrid, gridFaults, pointsOf}
 use Rattle.rules.specs.Bitmap.{Lent, bitmapFaults, bitmapGiven, inForce, bitmapOctets, presentBy, markOf, valueOf}
 use Rattle.rules.specs.Points.{valueAt, scattered, gathered}
-use Rattle.rules.specs.Values.{scaleAt, packingFaults, valuesAt}
-use Rattle.rules.specs.Reading.{gridIn, gridOf, pointsIn, bitmapIn, inForceIn, presentIn, presentCount, packingIn, scaleIn, valuesIn, marksIn}
+use Rattle.rules.specs.Values.{scaleAt, packingFaults}
+use Rattle.rules.specs.Reading.{gridIn, gridOf, pointsIn, bitmapIn, inForceIn, presentIn, presentCount, packingIn, scaleIn, dataIn, valuesIn, marksIn}
 use Rattle.rules.specs.Writing.{Parts, gridFor, pointsFor, pdsFaults, listsFit, storedFaults, gridGiven, pointBad, differ, partsFaults, message, writeRefusal}
 use Rattle.rules.specs.RoundTrip.{partsIn}
 use Rattle.laws.specs.Taken.{Taken}
@@ -33,6 +33,7 @@ use Rattle.bits.proofs.Tests.{or-none}
 use Rattle.laws.proofs.Rows.{none-of, any-none, gated, not-eq, outside-no, taken-by}
 use Rattle.laws.proofs.Judged.{Judged, judged}
 use Rattle.laws.proofs.Bounded.{kind}
+use Rattle.laws.proofs.Data.{data-length, data-wide}
 use Rattle.laws.proofs.Sections.{Sections, sections}
 use Rattle.laws.proofs.Whole.{beyond-no}
 use Rattle.laws.proofs.Signs.{signed-size}
@@ -57,12 +58,10 @@ stored-none (Stored j) s lent p values marks n h same =
     )
 
 -- its row 13, at a point
-point-none : (bitmap : Bool) (bits mark value : ℕ) → mark < 2 → (mark ≡ 0 → bitmap ≡ true) → (mark ≡ 0 → value ≡ 0) → value < 2 ^ bits → pointBad bitmap bits mark value ≡ false
+point-none : (bitmap : Bool) (bits mark value : ℕ) → (mark ≡ 0 → bitmap ≡ true) → (mark ≡ 0 → value ≡ 0) → value < 2 ^ bits → pointBad bitmap bits mark value ≡ false
 unfolding pointBad
-point-none bitmap bits mark value a b c d =
-    or-none _ _
-    (or-none _ _ (le-ltb 1 mark (omega arith)) (gated (eqb mark 0) _ (λ q. let z = eqb-true mark 0 q in or-none _ _ (ap not (b z)) (not-eq value 0 (c z)))))
-    (lt-leb (2 ^ bits) value d)
+point-none bitmap bits mark value b c d =
+    or-none _ _ (gated (eqb mark 0) _ (λ q. let z = eqb-true mark 0 q in or-none _ _ (ap not (b z)) (not-eq value 0 (c z)))) (lt-leb (2 ^ bits) value d)
 
 differ-none : (a b : Bool) → a ≡ b → differ a b ≡ false
 differ-none a true e = ap (λ (x : Bool). differ x true) e
@@ -129,15 +128,7 @@ module _ (s : List ℕ) (lent : Lent) (t : Taken s lent) where
 
   -- the values
   abbrev pub xs : List ℕ
-  xs = valuesAt s (placesOf s .bds .start) (packingIn s .bits) (presentCount s lent)
-
-  xs-length : length xs ≡ presentCount s lent
-  unfolding valuesAt
-  xs-length = length-runs (bitsIn 8 s) ((placesOf s .bds .start + 11) * 8) (packingIn s .bits) (presentCount s lent)
-
-  xs-wide : Wide (packingIn s .bits) xs
-  unfolding valuesAt
-  xs-wide = wide-runs (bitsIn-bits 8 s) ((placesOf s .bds .start + 11) * 8) (packingIn s .bits) (presentCount s lent)
+  xs = dataIn s lent
 
   values-is : (i : ℕ) → i < n → valueOf (w .values) i ≡ valueAt (presentIn s lent) xs i
   unfolding partsIn valuesIn scattered
@@ -145,7 +136,7 @@ module _ (s : List ℕ) (lent : Lent) (t : Taken s lent) where
 
   pub packed-is : gathered (markOf (w .marks)) (valueOf (w .values)) n ≡ xs
   unfolding partsIn valuesIn marksIn presentCount
-  packed-is = gathered-back (presentIn s lent) present xs n xs-length
+  packed-is = gathered-back (presentIn s lent) present xs n (data-length s lent)
 
   -- the writer's rows
   row5 : anyOf (pdsFaults (w .pds)) ≡ false
@@ -183,8 +174,8 @@ module _ (s : List ℕ) (lent : Lent) (t : Taken s lent) where
   point i l =
       let e = marks-is i l in
       let v = values-is i l in
-      point-none _ _ _ _ (marks-bits i) (λ z. absent i (sym e ∙ z)) (λ z. v ∙ value-away (presentIn s lent) xs i (apart (presentIn s lent i) (sym e ∙ z)))
-      (subst (λ (x : ℕ). x < 2 ^ packingIn s .bits) (sym v) (value-lt (presentIn s lent) xs (packingIn s .bits) xs-wide i))
+      point-none _ _ _ _ (λ z. absent i (sym e ∙ z)) (λ z. v ∙ value-away (presentIn s lent) xs i (apart (presentIn s lent i) (sym e ∙ z)))
+      (subst (λ (x : ℕ). x < 2 ^ packingIn s .bits) (sym v) (value-lt (presentIn s lent) xs (packingIn s .bits) (data-wide s lent) i))
     where
       apart : (x : ℕ) → x ≡ 0 → x ≡ 1 → ⊥
       apart x e f = omega arith
@@ -194,10 +185,13 @@ module _ (s : List ℕ) (lent : Lent) (t : Taken s lent) where
   row13 = any-none _ (
     ap not lists-fit,
     (
-      no-below _ (pointsFor w) (λ i l. point i (subst (λ (x : ℕ). i < x) points-for l)),
+      no-below _ (pointsFor w) (λ i l. le-ltb 1 (markOf (w .marks) i) (omega (arith, marks-bits i))),
       (
-        differ-none _ _ (sym (grid-same s pdsStart (w .pds) pds-octet) ∙ grid-given (hasGrid s pdsStart) (gridAt s (placesOf s .gds .start))),
-        (differ-none _ _ (sym (bitmap-same s pdsStart (w .pds) pds-octet) ∙ kind s), tt),
+        no-below _ (pointsFor w) (λ i l. point i (subst (λ (x : ℕ). i < x) points-for l)),
+        (
+          differ-none _ _ (sym (grid-same s pdsStart (w .pds) pds-octet) ∙ grid-given (hasGrid s pdsStart) (gridAt s (placesOf s .gds .start))),
+          (differ-none _ _ (sym (bitmap-same s pdsStart (w .pds) pds-octet) ∙ kind s), tt),
+        ),
       ),
     ),
   )

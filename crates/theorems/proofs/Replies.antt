@@ -6,20 +6,22 @@ use mathlib.Core.Path.{_≡_, refl, _∙_, ap}
 use mathlib.Core.Logic.{_⊎_, inl, inr}
 use mathlib.Core.List.{List, [], _∷_, _++_}
 use native.Mathlib.Omega.{arith}
-use borrow.Author.Tests.{eqb-true, eqb-false}
+use borrow.Author.Tests.{eqb-false}
 use lib.Dec.{T}
 use lib.ListN.{length, take, drop}
 use lib.Seq.{take-append-seam, drop-append-seam}
-use Rattle.rules.specs.declared.{Refusal.Refusal}
+use Rattle.rules.specs.declared.{Refusal.Refusal, Form.Form}
 use Rattle.rules.specs.Table.{Row, given, refusal, accepted, firstOr, first, answered, filled}
 use Rattle.rules.specs.Reading.{layoutRows, gridRows, dataRows, parsedOf, earlierRows, messageTable, ownRefusal, answerBy, headerOf, readTable, readRefusal, readOf, bitmapOf, numberingOf}
+use Rattle.rules.specs.Bitmap.{Lent}
 use Rattle.rules.specs.Display.{displayTable, displayOf}
-use Rattle.rules.specs.Writing.{lengthOf, writeTable, writeRefusal, writeOf}
-use Rattle.rules.specs.Checking.{checkTable}
+use Rattle.rules.specs.Writing.{Parts, lengthOf, writeTable, writeRefusal, writeOf}
+use Rattle.rules.specs.Checking.{Source, checkTable}
 use Rattle.rules.specs.Packing.{packTable, packRefusal, packOf}
 use Rattle.laws.specs.Tables.{Clear}
 use Rattle.theorems.specs.Replies.{Stops, RefusalFirst, numbers, Among, ReplyAmong, RowNumbers, Whole, TakenOrRefused, RefusalKeeps, AcceptedFills}
-use Rattle.laws.proofs.Rows.{is-true}
+use Rattle.laws.proofs.Rows.{is-true, zero-of}
+use Rattle.laws.proofs.Judged.{own-zero, read-zero}
 
 on-top : (test : Bool) (r : Refusal) (rows : List Row) → (Clear rows × (first rows ≡ refusal 0)) ⊎ Stops rows (first rows)
     → (Clear (given r test ∷ rows) × (cond test r (first rows) ≡ refusal 0)) ⊎ Stops (given r test ∷ rows) (cond test r (first rows))
@@ -75,24 +77,37 @@ row-numbers = record {
 }
 
 -- what is answered by a reply: found or zeros
-whole : {A : Type 0} (r : Refusal) (found zeros : A) → Whole r found zeros (answered r found zeros)
-whole {A} r found zeros = go (accepted r) refl
+whole : {A : Type 0} (r : Refusal) → (accepted r ≡ true → r ≡ refusal 0) → (found zeros : A) → Whole r found zeros (answered r found zeros)
+whole {A} r z found zeros = go (accepted r) refl
   where
     positive : (n : ℕ) → (n ≡ 0 → ⊥) → 0 < n
     positive n h = omega arith
 
     go : (b : Bool) → accepted r ≡ b → Whole r found zeros (answered r found zeros)
-    go true e = inl ((λ i. record { number = eqb-true (r .number) 0 e i }), ap (λ (b : Bool). cond b found zeros) e)
+    go true e = inl (z e, ap (λ (b : Bool). cond b found zeros) e)
     go false e = inr (positive (r .number) (eqb-false (r .number) 0 e), ap (λ (b : Bool). cond b found zeros) e)
+
+-- the tables of all that is answered: an accepted one's reply is refusal 0
+display-zero : (s : List ℕ) (lent : Lent) → accepted (first (displayTable s lent)) ≡ true → first (displayTable s lent) ≡ refusal 0
+unfolding displayTable messageTable earlierRows layoutRows gridRows dataRows parsedOf
+display-zero s lent = zero-of (displayTable s lent) (tt, (tt, (tt, (tt, (tt, (tt, (tt, (tt, (tt, (tt, (tt, (tt, (tt, tt)))))))))))))
+
+write-zero : (w : Parts) (out : List ℕ) → accepted (writeRefusal w out) ≡ true → writeRefusal w out ≡ refusal 0
+unfolding writeRefusal writeTable
+write-zero w out = zero-of (writeTable w out) (tt, (tt, (tt, (tt, (tt, (tt, (tt, (tt, tt))))))))
+
+pack-zero : (pds : List ℕ) (form : Form) (lent : Lent) (f : Source) (out : List ℕ) → accepted (packRefusal pds form lent f out) ≡ true → packRefusal pds form lent f out ≡ refusal 0
+unfolding packRefusal packTable writeTable
+pack-zero pds form lent f out = zero-of (packTable pds form lent f out) (tt, (tt, (tt, (tt, (tt, (tt, (tt, (tt, (tt, (tt, (tt, (tt, (tt, tt)))))))))))))
 
 pub taken-or-refused : TakenOrRefused
 unfolding headerOf readOf answerBy displayOf bitmapOf numberingOf writeOf packOf lengthOf
 taken-or-refused = record {
-  header = λ s lent. whole (ownRefusal s lent) _ _;
-  read = λ s lent values marks. whole (readRefusal s lent values marks) _ _;
-  display = λ s lent. whole (first (displayTable s lent)) _ _;
-  bitmap = λ s lent. whole (ownRefusal s lent) _ _;
-  number = λ s lent i. whole (ownRefusal s lent) _ _;
-  write = λ w out. (refl, whole (writeRefusal w out) _ _);
-  pack = λ pds form lent f out. (refl, whole (packRefusal pds form lent f out) _ _);
+  header = λ s lent. whole (ownRefusal s lent) (own-zero s lent) _ _;
+  read = λ s lent values marks. whole (readRefusal s lent values marks) (read-zero s lent values marks) _ _;
+  display = λ s lent. whole (first (displayTable s lent)) (display-zero s lent) _ _;
+  bitmap = λ s lent. whole (ownRefusal s lent) (own-zero s lent) _ _;
+  number = λ s lent i. whole (ownRefusal s lent) (own-zero s lent) _ _;
+  write = λ w out. (refl, whole (writeRefusal w out) (write-zero w out) _ _);
+  pack = λ pds form lent f out. (refl, whole (packRefusal pds form lent f out) (pack-zero pds form lent f out) _ _);
 }

@@ -16,7 +16,7 @@ use Rattle.rules.specs.Places.{endStart, pdsStart, hasGrid, hasBitmap, placesOf
 use Rattle.rules.specs.Bitmap.{Lent, markOf, valueOf, bmsOf}
 use Rattle.rules.specs.Points.{gathered}
 use Rattle.rules.specs.Values.{packingAt, lengthBad, bdsOf}
-use Rattle.rules.specs.Reading.{gridIn, bitmapIn, pointsIn, packingIn, scaleIn, presentCount}
+use Rattle.rules.specs.Reading.{gridIn, bitmapIn, pointsIn, packingIn, scaleIn, dataIn, presentCount}
 use Rattle.rules.specs.Writing.{Parts, gdsFor, message, writeRefusal, writeOf, outputAfter}
 use Rattle.rules.specs.RoundTrip.{partsIn, minusZero, bitmapPaddingSet, dataPaddingSet, stains, canonical}
 use Rattle.laws.specs.Taken.{Taken}
@@ -89,7 +89,7 @@ module _ (s : List ℕ) (lent : Lent) (below : Below 256 s) (t : Taken s lent) (
       here s (endStart s) ending [] below (omega (arith, at .end)) (is-eq _ _ (f .1 .0), tt) (sym (drop-length s) ∙ ap (λ (x : ℕ). drop x s) q) ∙ ap (λ (x : ℕ). drop x s) e
 
   bds-here : bdsOf (packingIn s) (scaleIn s) (read.xs s lent t) ++ drop (D .start + D .len) s ≡ drop (D .start) s
-  unfolding packingIn scaleIn packingAt lengthBad
+  unfolding packingIn scaleIn dataIn packingAt lengthBad
   bds-here =
       data-here s (D .start) (D .len) (presentCount s lent) below (omega (arith, at .end)) (at .bds .least refl) (at .bds .even refl) (sym (at .bds .says))
       (is-eq _ _ (j .length)) (c .scale) (c .padding)

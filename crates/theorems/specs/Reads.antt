@@ -7,21 +7,22 @@ use mathlib.Core.Bool.{false, cond}
 use mathlib.Core.List.{List, [], _∷_, map}
 use lib.Dec.{T, eqb}
 use lib.IntN.{pos, negsuc}
-use lib.ListN.{length, take, drop}
+use lib.ListN.{length, getD, take, drop}
 use lib.Ieee.{binary64, ofBits}
 use lib.Ieee.Exact.{HasValue}
 use Rattle.bits.specs.Bits.{bitsIn, run, count}
-use Rattle.rules.specs.declared.{Header.Header, Bitmap.the-variants.Without, GridPoint.GridPoint, Spot.Spot, Charted.the-variants.On, Pointed.the-variants.At}
+use Rattle.rules.specs.declared.{Header.Header, Bitmap.the-variants.Without, Shape.Shape, GridPoint.GridPoint, Spot.Spot, Charted.the-variants.On, Pointed.the-variants.At}
+use Rattle.rules.specs.Bounds.{bdsHead}
 use Rattle.rules.specs.Numbers.{joined, decimalAt}
 use Rattle.rules.specs.Table.{refusal, accepted}
 use Rattle.rules.specs.Places.{octetsOf, noPart, pdsStart, hasGrid, hasBitmap, placesOf, sectionsOf}
 use Rattle.rules.specs.Time.{momentAt}
 use Rattle.rules.specs.Grid.{theGrid}
-use Rattle.rules.specs.Chart.{west, north, byColumn, spotOf, pointOf, charted, pointed}
-use Rattle.rules.specs.Bitmap.{Lent, markOf, valueOf}
+use Rattle.rules.specs.Chart.{west, north, byColumn, spotOf, pointsOn, rowsOn, rowLong, spotOn, pointOn, charted, pointed}
+use Rattle.rules.specs.Bitmap.{Lent, markOf, marksLong, valueOf}
 use Rattle.rules.specs.Points.{numbered, absent}
 use Rattle.rules.specs.Values.{sOf, bOf, sizeOf, unit}
-use Rattle.rules.specs.Reading.{ownRefusal, bitmapIn, pointsIn, presentIn, presentCount, packingIn, headerOf, readRefusal, readOf, valuesAfter, marksAfter, sectionOf, numberingOf}
+use Rattle.rules.specs.Reading.{ownRefusal, bitmapIn, pointsIn, presentIn, presentCount, packingIn, dataIn, headerOf, readRefusal, readOf, valuesAfter, marksAfter, sectionOf, numberingOf}
 use Rattle.rules.specs.Writing.{Parts, gridFor, pointsFor}
 use Rattle.rules.specs.RoundTrip.{partsIn}
 use Rattle.rules.specs.Display.{shownReference, shownStep}
@@ -45,17 +46,14 @@ SectionsHanded = (s : List ℕ) (lent : Lent) → Taken s lent → HandedBack s 
 abbrev pub RefusedHasNone : Type 0
 RefusedHasNone = (s : List ℕ) (lent : Lent) (k : ℕ) → accepted (ownRefusal s lent) ≡ false → sectionOf s lent k ≡ noPart
 
--- of a point, where reading left these lists: "A present grid point's data number is the count of ones before it in the bitmap", its value stands among the data by that number,
--- inside the data section; "An absent point has none", and "0 and 0 at absent points"
+-- of a point, where reading left these lists: "A present grid point's data number is the count of ones before it in the bitmap", its value stands among the data by that number;
+-- "An absent point has none", and "0 and 0 at absent points"
 pub record LeftAt (s : List ℕ) (lent : Lent) (values marks : List ℕ) (i : ℕ) : Type 0 where
   pub bit : presentIn s lent i < 2
   pub mark : markOf marks i ≡ presentIn s lent i
   pub here : presentIn s lent i ≡ 1
-      → let k = count (presentIn s lent) 0 i in let bits = packingIn s .bits in
-      (numberingOf s lent i ≡ numbered k)
-      × (k < presentCount s lent)
-      × (k * bits + bits ≤ 8 * (placesOf s .bds .len - 11))
-      × (valueOf values i ≡ run (bitsIn 8 s) ((placesOf s .bds .start + 11) * 8 + k * bits) bits)
+      → let k = count (presentIn s lent) 0 i in
+      (numberingOf s lent i ≡ numbered k) × (k < presentCount s lent) × (valueOf values i ≡ getD (dataIn s lent) k 0)
   pub away : presentIn s lent i ≡ 0 → (numberingOf s lent i ≡ absent) × (valueOf values i ≡ 0)
 
 abbrev pub ReadAt : List ℕ → Lent → List ℕ → List ℕ → ℕ → Type 0
@@ -64,6 +62,14 @@ ReadAt s lent values marks i = LeftAt s lent (valuesAfter s lent values marks) (
 abbrev pub ValueAtPoint : Type 0
 ValueAtPoint = (s : List ℕ) (lent : Lent) (values marks : List ℕ) → T (accepted (readRefusal s lent values marks)) → (i : ℕ) → i < pointsIn s → ReadAt s lent values marks i
 
+-- "Values are taken one after another from the place reached": the k-th of the m values stands at its bit place, inside the data section
+pub record StandsAt (s : List ℕ) (lent : Lent) (k bits : ℕ) : Type 0 where
+  pub inside : k * bits + bits ≤ 8 * (placesOf s .bds .len - bdsHead)
+  pub is : getD (dataIn s lent) k 0 ≡ run (bitsIn 8 s) ((placesOf s .bds .start + bdsHead) * 8 + k * bits) bits
+
+abbrev pub PackedSimply : Type 0
+PackedSimply = (s : List ℕ) (lent : Lent) → Taken s lent → (k : ℕ) → k < presentCount s lent → StandsAt s lent k (packingIn s .bits)
+
 -- "or its own number where there is no bitmap"
 abbrev pub OwnNumber : Type 0
 OwnNumber = (s : List ℕ) (lent : Lent) → Taken s lent → bitmapIn s ≡ Without → (i : ℕ) → i < pointsIn s → numberingOf s lent i ≡ numbered i
@@ -71,7 +77,7 @@ OwnNumber = (s : List ℕ) (lent : Lent) → Taken s lent → bitmapIn s ≡ Wit
 -- "elements after n stay"
 abbrev pub ReadKeeps : Type 0
 ReadKeeps = (s : List ℕ) (lent : Lent) (values marks : List ℕ) → T (accepted (readRefusal s lent values marks))
-    → (drop (pointsIn s) (valuesAfter s lent values marks) ≡ drop (pointsIn s) values) × (drop (pointsIn s) (marksAfter s lent values marks) ≡ drop (pointsIn s) marks)
+    → (drop (pointsIn s) (valuesAfter s lent values marks) ≡ drop (pointsIn s) values) × (drop (marksLong (pointsIn s)) (marksAfter s lent values marks) ≡ drop (marksLong (pointsIn s)) marks)
 
 -- "packed integers, present points, scales": what is handed out of a message, a header and two lists as reading left them, is the parts w, field by field
 pub record Told (s : List ℕ) (h : Header) (values marks : List ℕ) (w : Parts) : Type 0 where
@@ -86,14 +92,14 @@ pub record Told (s : List ℕ) (h : Header) (values marks : List ℕ) (w : Parts
   pub packing : h .packing ≡ w .form .packing
   pub scale : h .scale ≡ w .scale
   pub each : take (pointsFor w) values ≡ w .values
-  pub which : take (pointsFor w) marks ≡ w .marks
+  pub which : take (marksLong (pointsFor w)) marks ≡ w .marks
 
 abbrev pub Tells : List ℕ → Lent → List ℕ → List ℕ → Parts → Type 0
 Tells s lent values marks w = Told s (readOf s lent values marks) (valuesAfter s lent values marks) (marksAfter s lent values marks) w
 
 -- of any taken message, with room for its points: the parts by which the round trips speak of it
 abbrev pub ReadTells : Type 0
-ReadTells = (s : List ℕ) (lent : Lent) (values marks : List ℕ) → Taken s lent → pointsIn s ≤ length values → pointsIn s ≤ length marks → Tells s lent values marks (partsIn s lent)
+ReadTells = (s : List ℕ) (lent : Lent) (values marks : List ℕ) → Taken s lent → pointsIn s ≤ length values → marksLong (pointsIn s) ≤ length marks → Tells s lent values marks (partsIn s lent)
 
 -- "One that invents the present count: it equals the bitmap's ones"
 abbrev pub PresentCounted : Type 0
@@ -109,13 +115,14 @@ ChartDrawn =
 -- "the row and column of each grid point": place and point determine each other on every grid, whatever its flags
 abbrev pub PlacePoint : Type 0
 PlacePoint =
-    (ni nj scan : ℕ)
-    → ((k : ℕ) → k < ni * nj → (spotOf ni nj scan k .row < nj) × (spotOf ni nj scan k .column < ni) × (pointOf ni nj scan (spotOf ni nj scan k) ≡ k))
-    × ((c : Spot) → c .row < nj → c .column < ni → (pointOf ni nj scan c < ni * nj) × (spotOf ni nj scan (pointOf ni nj scan c) ≡ c))
+    (g : Shape)
+    → ((k : ℕ) → k < pointsOn g
+    → (spotOn g k .row < rowsOn g) × (spotOn g k .column < rowLong g (spotOn g k .row)) × (pointOn g (spotOn g k) ≡ k))
+    × ((c : Spot) → c .row < rowsOn g → c .column < rowLong g (c .row) → (pointOn g c < pointsOn g) × (spotOn g (pointOn g c) ≡ c))
 
 -- and so as they are answered
 abbrev pub PlacePointAnswers : Type 0
-PlacePointAnswers = (ni nj scan : ℕ) (k : GridPoint) (c : Spot) → (charted ni nj scan k ≡ On c) ↔ (pointed ni nj scan c ≡ At k)
+PlacePointAnswers = (g : Shape) (k : GridPoint) (c : Spot) → (charted g k ≡ On c) ↔ (pointed g c ≡ At k)
 
 -- "IEEE doubles of exactly those values": R in size sizeOf r / 16^70 with its sign, and 2^E. "R with B = 0 gives all bits zero"
 abbrev pub ShownExactly : Type 0

@@ -6,12 +6,13 @@ use mathlib.Core.Bool.{Bool}
 use mathlib.Core.List.{List, [], _∷_}
 use lib.Dec.{T, eqb}
 use lib.ListN.{length, getD, take}
-use Rattle.rules.specs.declared.{Found.Found, Found.the-variants.Nothing, Found.the-variants.Given, Bitmap.Bitmap, Bitmap.the-variants.Without, Bitmap.the-variants.Carried, Bitmap.the-variants.Stored, Written.Written}
+use Rattle.rules.specs.declared.{Shape.Shape, Geometry.Geometry, Found.Found, Found.the-variants.Nothing, Found.the-variants.Given, Bitmap.Bitmap, Bitmap.the-variants.Without, Bitmap.the-variants.Carried, Bitmap.the-variants.Stored, Written.Written}
 use Rattle.bits.specs.Bits.{bitsIn}
+use Rattle.rules.specs.Bounds.{bmsHead, bdsHead}
 use Rattle.rules.specs.Numbers.{octet}
 use Rattle.rules.specs.Table.{accepted}
 use Rattle.rules.specs.Places.{pdsStart, hasGrid, placesOf}
-use Rattle.rules.specs.Bitmap.{Lent}
+use Rattle.rules.specs.Bitmap.{Lent, marksLong}
 use Rattle.rules.specs.Reading.{pointsIn, bitmapIn, presentCount, packingIn}
 use Rattle.rules.specs.Writing.{Parts, pointsFor, message, writeRefusal, writeOf, outputAfter}
 use Rattle.rules.specs.RoundTrip.{partsIn, stains, canonical}
@@ -22,9 +23,19 @@ use Rattle.theorems.specs.Reads.{Tells}
 abbrev pub Below : ℕ → List ℕ → Type 0
 Below b s = (i : ℕ) → getD s i 0 < b
 
+pub record ShapeFits (g : Shape) : Type 0 where
+  pub ni : g .ni < 2 ^ 16
+  pub nj : g .nj < 2 ^ 16
+  pub scan : g .scan < 2 ^ 8
+
+pub record GeometryFits (a : Geometry) : Type 0 where
+  pub flags : a .flags < 2 ^ 8
+  pub di : a .di < 2 ^ 16
+  pub dj : a .dj < 2 ^ 16
+
 abbrev pub GridFits : Found → Type 0
 GridFits Nothing = Unit {0}
-GridFits (Given g) = (g .ni < 2 ^ 16) × (g .nj < 2 ^ 16) × (g .flags < 2 ^ 8) × (g .di < 2 ^ 16) × (g .dj < 2 ^ 16) × (g .scan < 2 ^ 8)
+GridFits (Given g) = ShapeFits (g .shape) × GeometryFits (g .geometry)
 
 abbrev pub NumberFits : Bitmap → Type 0
 NumberFits Without = Unit {0}
@@ -39,7 +50,7 @@ handed answer out = take (answer .len) out
 pub record Returned (w : Parts) (s : List ℕ) : Type 0 where
   pub taken : Taken s (w .lent)
   pub parts : partsIn s (w .lent) ≡ w
-  pub tells : (values marks : List ℕ) → pointsFor w ≤ length values → pointsFor w ≤ length marks → Tells s (w .lent) values marks w
+  pub tells : (values marks : List ℕ) → pointsFor w ≤ length values → marksLong (pointsFor w) ≤ length marks → Tells s (w .lent) values marks w
 
 -- "Writing gives a message that reads back to the same parts with the same stored bitmap lent"
 abbrev pub ReadAfterWrite : Type 0
@@ -90,8 +101,8 @@ dataBits s lent = presentCount s lent * packingIn s .bits
 
 pub data Ignored (s : List ℕ) (lent : Lent) (i : ℕ) : Type 0 where
   reserved : T (hasGrid s pdsStart) → Within ((placesOf s .gds .start + 28) * 8) 32 i → Ignored s lent i
-  bitmap : bitmapIn s ≡ Carried → Within ((placesOf s .bms .start + 6) * 8 + pointsIn s) (octet s (placesOf s .bms .start) 4) i → Ignored s lent i
-  padding : Within ((placesOf s .bds .start + 11) * 8 + dataBits s lent) (8 * (placesOf s .bds .len - 11) - dataBits s lent) i → Ignored s lent i
+  bitmap : bitmapIn s ≡ Carried → Within ((placesOf s .bms .start + bmsHead) * 8 + pointsIn s) (octet s (placesOf s .bms .start) 4) i → Ignored s lent i
+  padding : Within ((placesOf s .bds .start + bdsHead) * 8 + dataBits s lent) (8 * (placesOf s .bds .len - bdsHead) - dataBits s lent) i → Ignored s lent i
 
 -- whatever stands there, the message is taken and has the same parts
 abbrev pub PaddingIgnored : Type 0

@@ -4,6 +4,18 @@ use Rattle.chart.proofs as contracts
 use Rattle.tight.specs.Tight.{Tight}
 use Rattle.tight.proofs.Laws.{by-reply}
 
+pub «points_on» : Tight contracts.points_on.ended λ M. contracts.points_on.clauses
+«points_on» k g h x y ws vs = by-reply k refl
+
+pub «rows_on» : Tight contracts.rows_on.ended λ M. contracts.rows_on.clauses
+«rows_on» k g h x y ws vs = by-reply k refl
+
+pub «row_long» : Tight contracts.row_long.ended λ M. contracts.row_long.clauses
+«row_long» k g h x y ws vs = by-reply k refl
+
+pub «columns_on» : Tight contracts.columns_on.ended λ M. contracts.columns_on.clauses
+«columns_on» k g h x y ws vs = by-reply k refl
+
 pub «spot_of» : Tight contracts.spot_of.ended λ M. contracts.spot_of.clauses
 «spot_of» k g h x y ws vs = by-reply k refl
 

@@ -1,20 +1,28 @@
 -- For each public function that its contract is tight: a file for each crate, each statement under its function's name.
 pub mod Laws
 -- octets, bits and replies
+pub mod Choices
 pub mod Reply
 pub mod Octets
+pub mod Widths
 pub mod Runs
+pub mod Packs
 pub mod Puts
 pub mod BareLoops
+-- points by their marks
+pub mod Marks
+pub mod Gathering
+pub mod Blocks
 -- the reader
 pub mod Time
 pub mod Places
+pub mod Chart
+pub mod Catalogue
 pub mod Grid
 pub mod Bitmap
 pub mod Values
 pub mod Message
 pub mod Parts
-pub mod Chart
 pub mod Points
 pub mod Display
 pub mod Bitreader
@@ -24,6 +32,7 @@ pub mod Listing
 pub mod Source
 pub mod Checker
 pub mod Scaling
+pub mod Steps
 -- the writer and the packer
 pub mod Writable
 pub mod Sections
@@ -31,4 +40,5 @@ pub mod Writer
 pub mod Packer
 -- the C face
 pub mod Records
+pub mod PointRecords
 pub mod Grib1

@@ -27,3 +27,6 @@ pub «signed_two» : Tight contracts.signed_two.ended λ M. contracts.signed_two
 
 pub «signed_three» : Tight contracts.signed_three.ended λ M. contracts.signed_three.clauses
 «signed_three» k g h x y ws vs = by-reply k refl
+
+pub plain : Tight contracts.plain.ended λ M. contracts.plain.clauses
+plain k g h x y ws vs = by-reply k refl

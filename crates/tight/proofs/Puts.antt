@@ -1,17 +1,7 @@
 -- The contracts of `puts` are tight.
-use mathlib.Core.Path.{refl}
 use Rattle.puts.proofs as contracts
 use Rattle.tight.specs.Tight.{Tight}
-use Rattle.tight.proofs.Laws.{by-reply, by-list}
-
-pub «put_bits» : Tight contracts.put_bits.ended λ M. contracts.put_bits.clauses
-«put_bits» k g h x y ws vs = by-list k λ e i. (e i, (tt, (tt, (tt, tt))))
-
-pub «all_below» : Tight contracts.all_below.ended λ M. contracts.all_below.clauses
-«all_below» k g h x y ws vs = by-reply k refl
-
-pub pack : Tight contracts.pack.ended λ M. contracts.pack.clauses
-pack k g h x y ws vs = by-list k λ e i. (tt, (tt, (e i, tt)))
+use Rattle.tight.proofs.Laws.{by-list}
 
 pub «put_octet» : Tight contracts.put_octet.ended λ M. contracts.put_octet.clauses
 «put_octet» k g h x y ws vs = by-list k λ e i. (e i, (tt, (tt, (tt, tt))))

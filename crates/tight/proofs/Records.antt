@@ -16,12 +16,6 @@ pub «place_record» : Tight contracts.place_record.ended λ M. contracts.place_
 pub «point_record» : Tight contracts.point_record.ended λ M. contracts.point_record.clauses
 «point_record» k g h x y ws vs = by-reply k refl
 
-pub «force_record» : Tight contracts.force_record.ended λ M. contracts.force_record.clauses
-«force_record» k g h x y ws vs = by-reply k refl
-
-pub «data_record» : Tight contracts.data_record.ended λ M. contracts.data_record.clauses
-«data_record» k g h x y ws vs = by-reply k refl
-
 pub «display_record» : Tight contracts.display_record.ended λ M. contracts.display_record.clauses
 «display_record» k g h x y ws vs = by-reply k refl
 
@@ -33,3 +27,6 @@ pub «check_record» : Tight contracts.check_record.ended λ M. contracts.check_
 
 pub «form_by» : Tight contracts.form_by.ended λ M. contracts.form_by.clauses
 «form_by» k g h x y ws vs = by-reply k refl
+
+pub «scale_by» : Tight contracts.scale_by.ended λ M. contracts.scale_by.clauses
+«scale_by» k g h x y ws vs = by-reply k refl

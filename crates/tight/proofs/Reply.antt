@@ -4,11 +4,17 @@ use Rattle.reply.proofs as contracts
 use Rattle.tight.specs.Tight.{Tight}
 use Rattle.tight.proofs.Laws.{by-reply}
 
+pub refusal : Tight contracts.refusal.ended λ M. contracts.refusal.clauses
+refusal k g h x y ws vs = by-reply k refl
+
 pub refuse : Tight contracts.refuse.ended λ M. contracts.refuse.clauses
 refuse k g h x y ws vs = by-reply k refl
 
-pub choose : Tight contracts.choose.ended λ M. contracts.choose.clauses
-choose k g h x y ws vs = by-reply k refl
+pub last : Tight contracts.last.ended λ M. contracts.last.clauses
+last k g h x y ws vs = by-reply k refl
 
-pub less : Tight contracts.less.ended λ M. contracts.less.clauses
-less k g h x y ws vs = by-reply k refl
+pub unwritten : Tight contracts.unwritten.ended λ M. contracts.unwritten.clauses
+unwritten k g h x y ws vs = by-reply k refl
+
+pub written : Tight contracts.written.ended λ M. contracts.written.clauses
+written k g h x y ws vs = by-reply k refl

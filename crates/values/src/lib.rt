@@ -2,10 +2,10 @@
 ghost use mathlib.Core.Path.{_≡_};
 ghost use Rattle.rules.specs.Table.{anyOf};
 ghost use Rattle.rules.specs.Values.{packingAt, scaleAt, packingFaults, lengthBad};
+use choices::less;
 use octets::four;
 use octets::octet;
 use octets::signed_two;
-use reply::less;
 use rules::Packing;
 use rules::Part;
 use rules::Scale;

@@ -7,7 +7,6 @@ use Prim.Native.Nat.{ℕ, _^_, _≤_, _<_}
 use native.Mathlib.Omega.{arith}
 use borrow.Author.Tests.{ltb-false, eqb-true, not-false}
 use lib.Dec.{ltb, eqb}
-use lib.IntN.{natAbs}
 use lib.Pow.{pow-pos}
 use lib.ListN.{length, getD, List·getD-eq-default}
 use Rattle.bits.proofs.Runs.{lt-or-ge}
@@ -21,9 +20,10 @@ use Rattle.rules.specs.Values.{packingFaults}
 use Rattle.rules.specs.Writing.{pdsFaults, listsFit, pointBad}
 use Rattle.bits.proofs.Tests.{both, or-right}
 use Rattle.laws.proofs.Whole.{within}
+use Rattle.laws.specs.Signs.{SignFree}
 use Rattle.reply.proofs.Stages.{passed}
 use Rattle.laws.proofs.Rows.{none-of}
-use Rattle.laws.proofs.Points.{flags-two, point-ok as pointKept}
+use Rattle.laws.proofs.Points.{flags-two, point-ok as pointKept, even-marks}
 use Rattle.writable.specs.Rows.{frontRows, scaleFaults, middleRows, earlyRows, pointsBad, listFaults, ownRows}
 use Rattle.writable.specs.Listed.{Listed}
 
@@ -33,16 +33,16 @@ pub record PointOk (bits m v : ℕ) : Type 0 where
   pub away : m ≡ 0 → v ≡ 0
   pub value : v < 2 ^ bits
 
-point-ok : (bitmap : Bool) (bits mark value : ℕ) → pointBad bitmap bits mark value ≡ false → PointOk bits mark value
-point-ok bitmap bits mark value e =
+point-ok : (bitmap : Bool) (bits mark value : ℕ) → mark < 2 → pointBad bitmap bits mark value ≡ false → PointOk bits mark value
+point-ok bitmap bits mark value m e =
     let p = pointKept bitmap bits mark value e in
-    record { mark = p .mark; away = λ z. p .absent z .1; value = p .value }
+    record { mark = m; away = λ z. p .absent z .1; value = p .value }
 
 -- what 11 leaves
 pub record ScaleOk (scale : Scale) (packing : Packing) : Type 0 where
-  pub e : natAbs (scale .e .value) < 32768
+  pub e : SignFree 2 (scale .e)
   pub flags : packing .flags ≤ 2
-  pub bits : packing .bits ≤ 24
+  pub bits : packing .bits ≤ bitsMost
 
 pub scale-ok : (scale : Scale) (packing : Packing) → anyOf (scaleFaults scale packing) ≡ false → ScaleOk scale packing
 unfolding scaleFaults packingFaults
@@ -55,8 +55,8 @@ scale-ok scale packing h =
     }
 
 pub record Accepted (pds : List ℕ) (form : Form) (scale : Scale) (values marks : List ℕ) (found : Found) (n : ℕ) : Type 0 where
-  pub pds-most : length pds ≤ 1024
-  pub points-most : pointsOf (theGrid found) ≤ 65536
+  pub pds-most : length pds ≤ pdsMost
+  pub points-most : pointsOf (theGrid found) ≤ pointsMost
   pub grid : anyOf (gridFaults (theGrid found)) ≡ false
   pub scaled : anyOf (scaleFaults scale (form .packing)) ≡ false
   pub values-long : length values ≡ n
@@ -80,16 +80,16 @@ accepted-of pds form scale lent values marks found n r e z =
       scaled = g .1 .1 .0;
       values-long = eqb-true (length values) n (both (eqb (length values) n) (eqb (length marks) n) fit .0);
       marks-long = eqb-true (length marks) n (both (eqb (length values) n) (eqb (length marks) n) fit .1);
-      point = λ i l. point-ok (bitmapGiven (form .bitmap)) (form .packing .bits) (markOf marks i) (valueOf values i)
-          (none-below (λ i. pointBad (bitmapGiven (form .bitmap)) (form .packing .bits) (markOf marks i) (valueOf values i)) n (q .1 .0) i l);
+      point = λ i l. point-ok (bitmapGiven (form .bitmap)) (form .packing .bits) (markOf marks i) (valueOf values i) (even-marks marks n (q .1 .0) i l)
+          (none-below (λ i. pointBad (bitmapGiven (form .bitmap)) (form .packing .bits) (markOf marks i) (valueOf values i)) n (q .1 .1 .0) i l);
     }
 
 -- the lists past their end hold zeros
-pub listed-of : (values marks : List ℕ) (bits n : ℕ) → length values ≡ n → length marks ≡ n → n ≤ 65536
+pub listed-of : (values marks : List ℕ) (bits n : ℕ) → length values ≡ n → length marks ≡ n → n ≤ pointsMost
     → ((i : ℕ) → i < n → PointOk bits (markOf marks i) (valueOf values i)) → Listed values marks bits
 listed-of values marks bits n ev em h p = record {
-  same = ev ∙ sym em;
-  few = subst (λ (x : ℕ). x ≤ 65536) (sym em) h;
+  same = em ∙ sym ev;
+  few = subst (λ (x : ℕ). x ≤ pointsMost) (sym ev) h;
   mark = λ i. ⊎-elim (λ (l : i < n). p i l .mark) (λ (g : n ≤ i). subst (λ (x : ℕ). x < 2) (sym (past marks em i g)) (omega arith)) (lt-or-ge i n);
   away = λ i. ⊎-elim (λ (l : i < n) z. p i l .away z) (λ (g : n ≤ i) z. past values ev i g) (lt-or-ge i n);
   value = λ i. ⊎-elim (λ (l : i < n). p i l .value) (λ (g : n ≤ i). subst (λ (x : ℕ). x < 2 ^ bits) (sym (past values ev i g)) (pow-pos bits)) (lt-or-ge i n);

@@ -2,13 +2,15 @@
 use mathlib.Core.Path.{_≡_, refl, sym, ap, ap₂, _∙_}
 use mathlib.Core.Bool.{Bool, true, false, not, cond, _&&_, _||_}
 use mathlib.Core.List.{List, [], _∷_}
-use Prim.Native.Nat.{ℕ, _+_, _-_, _/_, _%_, _^_, _≤_}
-use native.Mathlib.Omega.{arith}
+use Prim.Native.Nat.{ℕ, _+_, _*_}
 use lib.Dec.{ltb, eqb}
-use lib.ListN.{length, getD}
-use borrow.Author.Tests.{ltb-false, eqb-true}
-use Rattle.bits.specs.Bits.{bitOf, bitsIn, octetsFor}
-use Rattle.bits.proofs.Below.{any-none, any-next}
+use lib.ListN.{length}
+use borrow.Author.Tests.{eqb-true}
+use Rattle.bits.specs.Bits.{bitsIn, octetsFor}
+use Rattle.bits.specs.Tables.{anyBelow}
+use Rattle.bits.proofs.Below.{any-ext}
+use Rattle.marks.specs.Marks.{marksDiffer}
+use native.Mathlib.Nat.{zero-add}
 use Rattle.rules.specs.declared.{Refusal.Refusal, Found.Found, Form.Form, Scale.Scale, Packing.Packing, Bitmap.the-variants.Stored}
 use Rattle.rules.specs.Table.{Row, row, refusal, anyOf, orAll, first, firstOr}
 use Rattle.rules.specs.Bounds.{exponentMost, bitsMost}
@@ -17,18 +19,9 @@ use Rattle.rules.specs.Places.{hasGrid, hasBitmap}
 use Rattle.rules.specs.Bitmap.{Lent, lentFaults, bitmapGiven, markOf}
 use Rattle.rules.specs.Values.{flagsBad, packingFaults}
 use Rattle.rules.specs.Writing.{listsFit, storedFaults, gridGiven}
-use Rattle.bits.proofs.Tests.{both, or-right}
+use Rattle.bits.proofs.Tests.{both}
 use Rattle.reply.proofs.Stages.{stop, go-on}
-use Rattle.writable.specs.Rows.{frontRows, marksDiffer, scaleFaults, middleRows, earlyRows, pointsBad, listFaults, ownRows}
-
-pub marks-none : (store marks : List ℕ) → false ≡ marksDiffer store marks 0
-unfolding marksDiffer
-marks-none store marks = any-none (λ i. not (eqb (bitsIn 8 store i) (markOf marks i)))
-
-pub marks-more : (store marks : List ℕ) (bad : Bool) (i : ℕ) → bad ≡ marksDiffer store marks i
-    → bad || not (eqb (getD store (i / 8) 0 / 2 ^ (7 - i % 8) % 2) (getD marks i 0)) ≡ marksDiffer store marks (i + 1)
-unfolding marksDiffer bitsIn bitOf
-marks-more store marks bad i e = any-next (λ i. not (eqb (bitsIn 8 store i) (markOf marks i))) i bad _ e refl
+use Rattle.writable.specs.Rows.{frontRows, scaleFaults, middleRows, earlyRows, pointsBad, listFaults, ownRows}
 
 -- 10: the lent bitmap is not the one, whatever its bits are; it is, and its bits decide where the lists are n long
 lent-wrong : (a x y z : Bool) → (x || y) || z ≡ true → true ≡ ((a || x) || y) || z
@@ -50,31 +43,33 @@ module _ (lent : Lent) (wanted : ℕ) (values marks : List ℕ) (n : ℕ) where
   abbrev fit : Bool
   fit = eqb (length values) n && eqb (length marks) n
 
+  abbrev unlikes : Bool
+  unlikes = anyBelow (λ i. not (eqb (bitsIn 8 (lent .octets) i) (markOf marks i))) n
+
   abbrev faults : Bool
   faults = anyOf (storedFaults (Stored wanted) lent values marks n)
 
+  -- the bits from the first octet on
+  differ-front : marksDiffer (lent .octets) 0 marks n ≡ unlikes
+  unfolding marksDiffer
+  differ-front = any-ext (λ i. not (eqb (bitsIn 8 (lent .octets) (0 * 8 + i)) (markOf marks i))) (λ i. not (eqb (bitsIn 8 (lent .octets) i) (markOf marks i))) n
+      (λ i l. ap (λ (x : ℕ). not (eqb (bitsIn 8 (lent .octets) x) (markOf marks i))) (zero-add i))
+
   pub store-wrong : other ≡ true → true ≡ faults
-  unfolding anyOf orAll storedFaults lentFaults marksDiffer
-  store-wrong e = lent-wrong (listsFit values marks n && marksDiffer (lent .octets) marks n) (eqb wanted 0) (not (eqb (lent .number) wanted)) (ltb (length (lent .octets)) (octetsFor n)) e
+  unfolding anyOf orAll storedFaults lentFaults
+  store-wrong e = lent-wrong (listsFit values marks n && unlikes) (eqb wanted 0) (not (eqb (lent .number) wanted)) (ltb (length (lent .octets)) (octetsFor n)) e
 
   pub store-short : other ≡ false → fit ≡ false → false ≡ faults
-  unfolding anyOf orAll storedFaults lentFaults listsFit marksDiffer
-  store-short e f = sym (ap (λ (x : Bool). x && marksDiffer (lent .octets) marks n) f) ∙ lent-right (fit && marksDiffer (lent .octets) marks n) (eqb wanted 0) (not (eqb (lent .number) wanted)) (ltb (length (lent .octets)) (octetsFor n)) e
+  unfolding anyOf orAll storedFaults lentFaults listsFit
+  store-short e f = sym (ap (λ (x : Bool). x && unlikes) f) ∙ lent-right (fit && unlikes) (eqb wanted 0) (not (eqb (lent .number) wanted)) (ltb (length (lent .octets)) (octetsFor n)) e
 
-  pub store-read : other ≡ false → fit ≡ true → (r : Bool) → r ≡ marksDiffer (lent .octets) marks n → r ≡ faults
-  unfolding anyOf orAll storedFaults lentFaults listsFit marksDiffer
-  store-read e f r d = d ∙ sym (ap (λ (x : Bool). x && marksDiffer (lent .octets) marks n) f) ∙ lent-right (fit && marksDiffer (lent .octets) marks n) (eqb wanted 0) (not (eqb (lent .number) wanted)) (ltb (length (lent .octets)) (octetsFor n)) e
+  pub store-read : other ≡ false → fit ≡ true → (r : Bool) → r ≡ marksDiffer (lent .octets) 0 marks n → r ≡ faults
+  unfolding anyOf orAll storedFaults lentFaults listsFit
+  store-read e f r d = d ∙ differ-front ∙ sym (ap (λ (x : Bool). x && unlikes) f) ∙ lent-right (fit && unlikes) (eqb wanted 0) (not (eqb (lent .number) wanted)) (ltb (length (lent .octets)) (octetsFor n)) e
 
 -- what the code tests of a list of values is how long it is
 pub store-fit : (values : List ℕ) (long n : ℕ) (b t : Bool) → length values ≡ long → eqb long n && b ≡ t → eqb (length values) n && b ≡ t
 store-fit values long n b t e h = ap (λ (x : ℕ). eqb x n && b) e ∙ h
-
-pub store-room : (lent : Lent) (wanted : ℕ) (t : Bool) (marks : List ℕ) (n : ℕ) → (eqb wanted 0 || not (eqb (lent .number) wanted)) || ltb (length (lent .octets)) (octetsFor n) ≡ false
-    → t && eqb (length marks) n ≡ true → (n ≤ length marks) × (octetsFor n ≤ length (lent .octets))
-store-room lent wanted t marks n e f =
-    let m = eqb-true (length marks) n (both t (eqb (length marks) n) f .1) in
-    let s = ltb-false (length (lent .octets)) (octetsFor n) (or-right (eqb wanted 0 || not (eqb (lent .number) wanted)) (ltb (length (lent .octets)) (octetsFor n)) e) in
-    (omega arith, s)
 
 -- 11: one test, and then the others
 or-first : (a x y : Bool) → a || (x || y) ≡ (a || x) || y
@@ -105,7 +100,7 @@ module _ (pds : List ℕ) (form : Form) (values marks : List ℕ) (n : ℕ) wher
         → (hg g : Bool) → hg ≡ hasGrid pds 0 → g ≡ cond hg (not ground) ground
         → (hb b : Bool) → hb ≡ hasBitmap pds 0 → b ≡ cond hb (not gaps) gaps
         → (p || g) || b ≡ anyOf (listFaults pds form values marks n)
-    unfolding anyOf orAll listFaults listsFit
+    unfolding anyOf orAll listFaults listsFit pointsBad
     lists-read p ep hg g eh e hb b ei i = rw (f, ep, e, i, eh, ei, eg, eb)
 
 -- the stages

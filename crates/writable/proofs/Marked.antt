@@ -3,9 +3,9 @@ use mathlib.Core.Path.{_≡_, refl, sym, ap, ap₂, _∙_, subst}
 use mathlib.Core.Bool.{Bool, true, false, not, _&&_, _||_}
 use mathlib.Core.List.{List, [], _∷_, _++_}
 use mathlib.Core.Logic.{⊎-elim}
-use Prim.Native.Nat.{ℕ, zero, suc, _-_, _%_, _^_, _≤_, _<_}
+use Prim.Native.Nat.{ℕ, zero, suc, _-_, _^_, _≤_, _<_}
 use native.Mathlib.Omega.{arith}
-use borrow.Author.Tests.{lt-leb, le-leb, eqb-true, eq-eqb, ne-eqb}
+use borrow.Author.Tests.{lt-leb, lt-ltb, eqb-true, eq-eqb, ne-eqb}
 use lib.Dec.{ltb, leb, eqb}
 use lib.Pow.{pow-pos}
 use lib.ListN.{length, List·getD-eq-default}
@@ -14,93 +14,84 @@ use Rattle.bits.specs.Tables.{anyBelow}
 use Rattle.bits.proofs.Runs.{lt-or-ge}
 use Rattle.bits.proofs.Fill.{length-tab, getD-tab}
 use Rattle.bits.proofs.Below.{any-ext}
-use Rattle.puts.proofs.Lists.{below-least}
+use Rattle.marks.specs.Marks.{allPresent}
 use Rattle.rules.specs.declared.{Found.Found, Bitmap.Bitmap, Bitmap.the-variants.Without, Bitmap.the-variants.Carried, Bitmap.the-variants.Stored, Form.Form, Scale.Scale}
 use Rattle.rules.specs.Table.{row, anyOf}
 use Rattle.rules.specs.Places.{hasGrid, hasBitmap}
-use Rattle.rules.specs.Bitmap.{Lent, lentFaults, bitmapGiven, markOf, valueOf}
+use Rattle.rules.specs.Bitmap.{Lent, lentFaults, bitmapGiven, markOf, marksLong, markOdd, valueOf}
 use Rattle.rules.specs.Writing.{listsFit, storedFaults, gridGiven, pointBad, differ}
-use Rattle.writable.specs.Rows.{frontRows, scaleFaults, middleRows, earlyRows, pointsBad, listFaults, ownRows, zeros, marksOff, markRows}
+use Rattle.writable.specs.Rows.{frontRows, scaleFaults, middleRows, earlyRows, anyBad, pointsBad, listFaults, ownRows, zeros, marksOff, markRows}
 use Rattle.writable.specs.Listed.{Listed}
+use Rattle.writable.proofs.Points.{any-or}
 
--- a mark above 1 has another bit than its last; of the others, 0 lacks that one
-off-mark : (x : ℕ) (b : Bool) → (leb 2 x || (leb 1 (1 - x % 2) && b)) ≡ (ltb 1 x || (eqb x 0 && b))
-off-mark zero b = refl
-off-mark (suc zero) b = refl
-off-mark (suc (suc x)) b = rw (le-leb 2 (suc (suc x)) (omega arith)) refl
+-- where points may be absent, a mark above 1; elsewhere one other than 1
+or-nothing : (a b : Bool) → (a || (b && false)) ≡ a
+or-nothing true b = refl
+or-nothing false true = refl
+or-nothing false false = refl
 
-apart : (s t u v b : Bool) → ((s || t) || ((u || v) && b)) ≡ ((s || (u && b)) || (t || (v && b)))
-apart true t u v b = refl
-apart false true true v true = refl
-apart false true true v false = refl
-apart false true false v b = refl
-apart false false true v true = refl
-apart false false true true false = refl
-apart false false true false false = refl
-apart false false false v b = refl
-
-off-each : (gaps : Bool) (marks : List ℕ) (n : ℕ) → (anyBelow (λ k. leb 2 (markOf marks k)) n || (anyBelow (λ k. leb 1 (1 - markOf marks k % 2)) n && not gaps)) ≡ marksOff gaps marks n
-unfolding marksOff anyBelow
-off-each gaps marks zero = refl
-off-each gaps marks (suc n) =
-    let x = markOf marks n in
-    apart (anyBelow (λ k. leb 2 (markOf marks k)) n) (leb 2 x) (anyBelow (λ k. leb 1 (1 - markOf marks k % 2)) n) (leb 1 (1 - x % 2)) (not gaps)
-    ∙ ap₂ (λ (p q : Bool). p || q) (off-each gaps marks n) (off-mark x (not gaps))
-
-above : (i x : ℕ) (t : Bool) → ltb x (suc i) ≡ not t → ltb i x ≡ t
-above i x t e = sym (twice (ltb i x)) ∙ ap not (sym (below-least x (suc i)) ∙ e) ∙ twice t
+not-one : (x : ℕ) → (ltb 1 x || (eqb x 0 && true)) ≡ not (eqb x 1)
+not-one zero = refl
+not-one (suc zero) = refl
+not-one (suc (suc x)) = rw (lt-ltb 1 (suc (suc x)) (omega arith), ne-eqb (suc (suc x)) 1 (λ e. two x e))
   where
-    twice : (y : Bool) → not (not y) ≡ y
-    twice true = refl
-    twice false = refl
+    two : (x : ℕ) → suc (suc x) ≡ 1 → ⊥
+    two x e = omega arith
 
--- what the bits of all marks together say
-pub off-all : (gaps : Bool) (marks : List ℕ) (n all few : ℕ) → ltb all (2 ^ 1) ≡ not (anyBelow (λ k. leb (2 ^ 1) (markOf marks k)) n)
-    → ltb few (2 ^ 0) ≡ not (anyBelow (λ k. leb (2 ^ 0) (1 - markOf marks k % 2)) n) → (ltb 1 all || (ltb 0 few && not gaps)) ≡ marksOff gaps marks n
-off-all gaps marks n all few a b =
-    ap₂ (λ (x y : Bool). x || (y && not gaps)) (above 1 all (anyBelow (λ k. leb 2 (markOf marks k)) n) a) (above 0 few (anyBelow (λ k. leb 1 (1 - markOf marks k % 2)) n) b)
-    ∙ off-each gaps marks n
+twice : (y : Bool) → not (not y) ≡ y
+twice true = refl
+twice false = refl
+
+pub off-odd : (marks : List ℕ) (n : ℕ) → markOdd marks n ≡ marksOff true marks n
+unfolding marksOff
+off-odd marks n = any-ext _ _ n (λ i l. sym (or-nothing (ltb 1 (markOf marks i)) (eqb (markOf marks i) 0)))
+
+pub off-gap : (marks : List ℕ) (n : ℕ) → not (allPresent marks n) ≡ marksOff false marks n
+unfolding allPresent marksOff
+off-gap marks n =
+    twice (anyBelow (λ i. not (eqb (markOf marks i) 1)) n) ∙ any-ext (λ i. not (eqb (markOf marks i) 1)) (λ i. ltb 1 (markOf marks i) || (eqb (markOf marks i) 0 && true)) n (λ i l. sym (not-one (markOf marks i)))
 
 -- 13 at a point
-or-none : (a b : Bool) → ((a || (b || false)) || false) ≡ (a || b)
-or-none true b = refl
-or-none false true = refl
-or-none false false = refl
+or-none : (b : Bool) → ((b || false) || false) ≡ b
+or-none true = refl
+or-none false = refl
 
-point-marked : (gaps : Bool) (bits mark value : ℕ) → (mark ≡ 0 → value ≡ 0) → value < 2 ^ bits → pointBad gaps bits mark value ≡ (ltb 1 mark || (eqb mark 0 && not gaps))
+point-marked : (gaps : Bool) (bits mark value : ℕ) → (mark ≡ 0 → value ≡ 0) → value < 2 ^ bits → pointBad gaps bits mark value ≡ (eqb mark 0 && not gaps)
 unfolding pointBad
 point-marked gaps bits mark value z v = go (eqb mark 0) refl
   where
-    go : (t : Bool) → eqb mark 0 ≡ t → ((ltb 1 mark || (t && (not gaps || not (eqb value 0)))) || leb (2 ^ bits) value) ≡ (ltb 1 mark || (t && not gaps))
-    go true e = rw (lt-leb (2 ^ bits) value v, eq-eqb value 0 (z (eqb-true mark 0 e))) (or-none (ltb 1 mark) (not gaps))
-    go false e = rw (lt-leb (2 ^ bits) value v) (or-none (ltb 1 mark) false)
+    go : (t : Bool) → eqb mark 0 ≡ t → ((t && (not gaps || not (eqb value 0))) || leb (2 ^ bits) value) ≡ (t && not gaps)
+    go true e = rw (lt-leb (2 ^ bits) value v, eq-eqb value 0 (z (eqb-true mark 0 e))) (or-none (not gaps))
+    go false e = rw (lt-leb (2 ^ bits) value v)
 
-pub points-marked : (gaps : Bool) (bits : ℕ) (values marks : List ℕ) (n : ℕ) → ((i : ℕ) → markOf marks i ≡ 0 → valueOf values i ≡ 0) → ((i : ℕ) → valueOf values i < 2 ^ bits)
+any-marked : (gaps : Bool) (bits : ℕ) (values marks : List ℕ) (n : ℕ) → ((i : ℕ) → markOf marks i ≡ 0 → valueOf values i ≡ 0) → ((i : ℕ) → valueOf values i < 2 ^ bits)
+    → anyBad gaps bits values marks n ≡ anyBelow (λ i. eqb (markOf marks i) 0 && not gaps) n
+any-marked gaps bits values marks n z v =
+    any-ext (λ i. pointBad gaps bits (markOf marks i) (valueOf values i)) (λ i. eqb (markOf marks i) 0 && not gaps) n
+    (λ i k. point-marked gaps bits (markOf marks i) (valueOf values i) (z i) (v i))
+
+points-marked : (gaps : Bool) (bits : ℕ) (values marks : List ℕ) (n : ℕ) → ((i : ℕ) → markOf marks i ≡ 0 → valueOf values i ≡ 0) → ((i : ℕ) → valueOf values i < 2 ^ bits)
     → pointsBad gaps bits values marks n ≡ marksOff gaps marks n
 unfolding pointsBad marksOff
 points-marked gaps bits values marks n z v =
-    any-ext (λ i. pointBad gaps bits (markOf marks i) (valueOf values i)) (λ i. ltb 1 (markOf marks i) || (eqb (markOf marks i) 0 && not gaps)) n
-    (λ i k. point-marked gaps bits (markOf marks i) (valueOf values i) (z i) (v i))
+    ap (λ (x : Bool). markOdd marks n || x) (any-marked gaps bits values marks n z v)
+    ∙ sym (any-or (λ i. ltb 1 (markOf marks i)) (λ i. eqb (markOf marks i) 0 && not gaps) n)
 
--- the zeros are such values
-pub length-zeros : (marks : List ℕ) → length (zeros marks) ≡ length marks
-length-zeros marks = length-tab (λ _. 0) (length marks)
+-- zeros are such values
+pub length-zeros : (long : ℕ) → length (zeros long) ≡ long
+length-zeros long = length-tab (λ _. 0) long
 
-zero-at : (marks : List ℕ) (i : ℕ) → valueOf (zeros marks) i ≡ 0
-zero-at marks i = ⊎-elim
-    (λ (l : i < length marks). getD-tab (λ _. 0) (length marks) i 0 l)
-    (λ (g : length marks ≤ i). List·getD-eq-default (zeros marks) 0 (subst (λ (x : ℕ). x ≤ i) (sym (length-zeros marks)) g))
-    (lt-or-ge i (length marks))
+zero-at : (long i : ℕ) → valueOf (zeros long) i ≡ 0
+zero-at long i = ⊎-elim
+    (λ (l : i < long). getD-tab (λ _. 0) long i 0 l)
+    (λ (g : long ≤ i). List·getD-eq-default (zeros long) 0 (subst (λ (x : ℕ). x ≤ i) (sym (length-zeros long)) g))
+    (lt-or-ge i long)
 
-pub zeros-marked : (gaps : Bool) (bits : ℕ) (marks : List ℕ) (n : ℕ) → pointsBad gaps bits (zeros marks) marks n ≡ marksOff gaps marks n
-zeros-marked gaps bits marks n =
-    points-marked gaps bits (zeros marks) marks n (λ i _. zero-at marks i) (λ i. subst (λ (x : ℕ). x < 2 ^ bits) (sym (zero-at marks i)) (pow-pos bits))
+zero-lt : (bits long i : ℕ) → valueOf (zeros long) i < 2 ^ bits
+zero-lt bits long i = subst (λ (x : ℕ). x < 2 ^ bits) (sym (zero-at long i)) (pow-pos bits)
 
-pub zeros-fit : (marks : List ℕ) (n : ℕ) → length marks ≡ n → eqb (length (zeros marks)) n && eqb (length marks) n ≡ true
-zeros-fit marks n l = rw (eq-eqb (length (zeros marks)) n (length-zeros marks ∙ l), eq-eqb (length marks) n l)
-
-pub zeros-unfit : (marks : List ℕ) (n : ℕ) → (length marks ≡ n → ⊥) → eqb (length (zeros marks)) n && eqb (length marks) n ≡ false
-zeros-unfit marks n l = rw (ne-eqb (length (zeros marks)) n (λ e. l (sym (length-zeros marks) ∙ e)))
+pub zeros-marked : (gaps : Bool) (bits long : ℕ) (marks : List ℕ) (n : ℕ) → pointsBad gaps bits (zeros long) marks n ≡ marksOff gaps marks n
+zeros-marked gaps bits long marks n = points-marked gaps bits (zeros long) marks n (λ i _. zero-at long i) (zero-lt bits long)
 
 -- of a list of values only its length counts for 10, and for 13 what the points make of it
 stored-alike : (b : Bitmap) (lent : Lent) (values us marks : List ℕ) (n : ℕ) → length values ≡ length us → storedFaults b lent values marks n ≡ storedFaults b lent us marks n
@@ -111,17 +102,19 @@ stored-alike (Stored k) lent values us marks n e =
     ap (λ (x : ℕ). (eqb x n && eqb (length marks) n && anyBelow (λ i. not (eqb (bitsIn 8 (lent .octets) i) (markOf marks i))) n) ∷ lentFaults lent k n) e
 
 lists-alike : (pds : List ℕ) (form : Form) (values us marks : List ℕ) (n : ℕ) → length values ≡ length us
-    → pointsBad (bitmapGiven (form .bitmap)) (form .packing .bits) values marks n ≡ pointsBad (bitmapGiven (form .bitmap)) (form .packing .bits) us marks n
+    → anyBad (bitmapGiven (form .bitmap)) (form .packing .bits) values marks n ≡ anyBad (bitmapGiven (form .bitmap)) (form .packing .bits) us marks n
     → listFaults pds form values marks n ≡ listFaults pds form us marks n
 unfolding listFaults listsFit
 lists-alike pds form values us marks n e p =
-    ap₂ (λ (x : ℕ) (t : Bool). not (eqb x n && eqb (length marks) n) ∷ t ∷ differ (hasGrid pds 0) (gridGiven (form .grid)) ∷ differ (hasBitmap pds 0) (bitmapGiven (form .bitmap)) ∷ []) e p
+    ap₂ (λ (x : ℕ) (t : Bool). not (eqb x n && eqb (length marks) (marksLong n)) ∷ markOdd marks n ∷ t ∷ differ (hasGrid pds 0) (gridGiven (form .grid)) ∷ differ (hasBitmap pds 0) (bitmapGiven (form .bitmap)) ∷ []) e p
 
-pub rows-marked : (pds : List ℕ) (form : Form) (scale : Scale) (lent : Lent) (values marks : List ℕ) (found : Found) (n : ℕ) → Listed values marks (form .packing .bits)
-    → markRows pds form scale lent marks found n ≡ ownRows pds form scale lent values marks found n
+pub rows-marked : (pds : List ℕ) (form : Form) (scale : Scale) (lent : Lent) (values marks : List ℕ) (found : Found) (n long : ℕ) → Listed values marks (form .packing .bits) → long ≡ length values
+    → markRows pds form scale lent long marks found n ≡ ownRows pds form scale lent values marks found n
 unfolding markRows ownRows earlyRows middleRows
-rows-marked pds form scale lent values marks found n p =
-    let l : length (zeros marks) ≡ length values = length-zeros marks ∙ sym (p .same) in
-    let t = zeros-marked (bitmapGiven (form .bitmap)) (form .packing .bits) marks n ∙ sym (points-marked (bitmapGiven (form .bitmap)) (form .packing .bits) values marks n (p .away) (p .value)) in
+rows-marked pds form scale lent values marks found n long p e =
+    let l : length (zeros long) ≡ length values = length-zeros long ∙ e in
+    let gaps = bitmapGiven (form .bitmap) in
+    let bits = form .packing .bits in
+    let t = any-marked gaps bits (zeros long) marks n (λ i _. zero-at long i) (zero-lt bits long) ∙ sym (any-marked gaps bits values marks n (p .away) (p .value)) in
     ap₂ (λ (s u : List Bool). (frontRows pds found ++ (row 10 (anyOf s) ∷ row 11 (anyOf (scaleFaults scale (form .packing))) ∷ [])) ++ (row 13 (anyOf u) ∷ []))
-    (stored-alike (form .bitmap) lent (zeros marks) values marks n l) (lists-alike pds form (zeros marks) values marks n l t)
+    (stored-alike (form .bitmap) lent (zeros long) values marks n l) (lists-alike pds form (zeros long) values marks n l t)

@@ -5,7 +5,6 @@ use mathlib.Core.List.{List, [], _∷_, _++_}
 use Rattle.rules.specs.declared.{Form.Form, Found.Found, Packing.Packing, Scale.Scale}
 use lib.Dec.{ltb, eqb}
 use lib.ListN.{length}
-use Rattle.bits.specs.Bits.{bitsIn}
 use Rattle.bits.specs.Tables.{tab, anyBelow}
 use Rattle.rules.specs.Bounds.{exponentMost}
 use Rattle.rules.specs.Numbers.{beyond}
@@ -13,7 +12,7 @@ use Rattle.rules.specs.Table.{Row, row, anyOf}
 use Rattle.rules.specs.Places.{hasGrid, hasBitmap}
 use Rattle.rules.specs.Time.{timeFaults}
 use Rattle.rules.specs.Grid.{gridMissing, theGrid, gridFaults}
-use Rattle.rules.specs.Bitmap.{Lent, bitmapGiven, markOf, valueOf}
+use Rattle.rules.specs.Bitmap.{Lent, bitmapGiven, markOf, valueOf, markOdd}
 use Rattle.rules.specs.Values.{packingFaults}
 use Rattle.rules.specs.Writing.{pdsFaults, listsFit, storedFaults, gridGiven, pointBad, differ}
 
@@ -26,10 +25,6 @@ frontRows pds found =
     ∷ row 9 (anyOf (gridFaults (theGrid found)))
     ∷ []
 
--- 10, at one of n points: "one of its first n bits isn't the same number as the mark"
-unfoldable pub marksDiffer : List ℕ → List ℕ → ℕ → Bool
-marksDiffer store marks n = anyBelow (λ i. not (eqb (bitsIn 8 store i) (markOf marks i))) n
-
 -- 11: E and the packing
 unfoldable pub scaleFaults : Scale → Packing → List Bool
 scaleFaults scale packing = beyond exponentMost (scale .e .value) ∷ packingFaults packing
@@ -40,18 +35,19 @@ middleRows form scale lent values marks n =
     row 10 (anyOf (storedFaults (form .bitmap) lent values marks n)) ∷ row 11 (anyOf (scaleFaults scale (form .packing))) ∷ []
 
 -- 13, at one of n points
-unfoldable pub pointsBad : Bool → ℕ → List ℕ → List ℕ → ℕ → Bool
-pointsBad bitmap bits values marks n = anyBelow (λ i. pointBad bitmap bits (markOf marks i) (valueOf values i)) n
+abbrev pub anyBad : Bool → ℕ → List ℕ → List ℕ → ℕ → Bool
+anyBad bitmap bits values marks n = anyBelow (λ i. pointBad bitmap bits (markOf marks i) (valueOf values i)) n
 
--- 13: "an absent point .. with value not 0"
-unfoldable pub strays : List ℕ → List ℕ → ℕ → Bool
-strays values marks n = anyBelow (λ i. eqb (markOf marks i) 0 && not (eqb (valueOf values i) 0)) n
+-- 13, of the marks and the points
+unfoldable pub pointsBad : Bool → ℕ → List ℕ → List ℕ → ℕ → Bool
+pointsBad bitmap bits values marks n = markOdd marks n || anyBad bitmap bits values marks n
 
 -- 13, of n points
 unfoldable pub listFaults : List ℕ → Form → List ℕ → List ℕ → ℕ → List Bool
 listFaults pds form values marks n =
     not (listsFit values marks n)
-    ∷ pointsBad (bitmapGiven (form .bitmap)) (form .packing .bits) values marks n
+    ∷ markOdd marks n
+    ∷ anyBad (bitmapGiven (form .bitmap)) (form .packing .bits) values marks n
     ∷ differ (hasGrid pds 0) (gridGiven (form .grid))
     ∷ differ (hasBitmap pds 0) (bitmapGiven (form .bitmap))
     ∷ []
@@ -65,14 +61,14 @@ unfoldable pub ownRows : List ℕ → Form → Scale → Lent → List ℕ → L
 ownRows pds form scale lent values marks found n =
     earlyRows pds form scale lent values marks found n ++ (row 13 (anyOf (listFaults pds form values marks n)) ∷ [])
 
--- a 0 for each mark: values that 13 takes at any point
-abbrev pub zeros : List ℕ → List ℕ
-zeros marks = tab (λ _. 0) (length marks)
+-- so many zeros: values that 13 takes at any point
+abbrev pub zeros : ℕ → List ℕ
+zeros long = tab (λ _. 0) long
 
 -- 13 at one of n points, by the marks alone
 unfoldable pub marksOff : Bool → List ℕ → ℕ → Bool
 marksOff bitmap marks n = anyBelow (λ i. ltb 1 (markOf marks i) || (eqb (markOf marks i) 0 && not bitmap)) n
 
--- all but 14 by the marks alone
-unfoldable pub markRows : List ℕ → Form → Scale → Lent → List ℕ → Found → ℕ → List Row
-markRows pds form scale lent marks found n = ownRows pds form scale lent (zeros marks) marks found n
+-- all but 14 by the marks and how many values there are
+unfoldable pub markRows : List ℕ → Form → Scale → Lent → ℕ → List ℕ → Found → ℕ → List Row
+markRows pds form scale lent long marks found n = ownRows pds form scale lent (zeros long) marks found n

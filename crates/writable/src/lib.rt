@@ -2,29 +2,31 @@
 ghost use mathlib.Core.Path.{_≡_};
 ghost use mathlib.Core.Bool.{_&&_};
 ghost use mathlib.Core.List.{List};
-ghost use Prim.Native.Nat.{ℕ, _≤_};
+ghost use Prim.Native.Nat.{ℕ};
+ghost use lib.Dec.{eqb};
 ghost use lib.ListN.{length};
-ghost use Rattle.bits.specs.Bits.{octetsFor};
 ghost use Rattle.rules.specs.declared.Bitmap.the-variants.{Stored};
 ghost use Rattle.rules.specs.Bounds.{exponentMost};
 ghost use Rattle.rules.specs.Numbers.{beyond};
 ghost use Rattle.rules.specs.Table.{anyOf, first};
 ghost use Rattle.rules.specs.Places.{hasGrid, hasBitmap};
-ghost use Rattle.rules.specs.Bitmap.{bitmapGiven};
+ghost use Rattle.rules.specs.Bitmap.{bitmapGiven, marksLong};
 ghost use Rattle.rules.specs.Writing.{pdsFaults, storedFaults, gridGiven};
-ghost use Rattle.writable.specs.Rows.{frontRows, marksDiffer, scaleFaults, middleRows, earlyRows, strays, pointsBad, listFaults, ownRows};
+ghost use Rattle.marks.specs.Marks.{strays};
+ghost use Rattle.writable.specs.Rows.{frontRows, scaleFaults, middleRows, earlyRows, pointsBad, listFaults, ownRows};
 
-mod marks; // marks.rt: the same by the marks alone
+mod unlisted; // unlisted.rt: the same by the marks alone, of values in no list
 
+use choices::choose;
 use grid::grid_bad;
 use grid::grid_missing;
 use grid::the_grid;
-pub use marks::judge_marks;
-use marks::marks_off;
+use marks::long;
+use marks::stray;
+use marks::unlike;
 use octets::octet;
 use octets::three;
-use puts::all_below;
-use reply::choose;
+use reply::last;
 use reply::refuse;
 use rules::Bitmap;
 use rules::Form;
@@ -37,7 +39,10 @@ use rules::bounds::EXPONENT_MOST;
 use rules::bounds::PDS_LEAST;
 use rules::bounds::PDS_MOST;
 use time::time_bad;
+pub use unlisted::judge_marks;
+use unlisted::marks_off;
 use values::packing_bad;
+use widths::all_below;
 
 // 5: the PDS's length, and its octets 1-3.
 pub fn pds_bad(pds: &[u8]) -> bool
@@ -52,29 +57,15 @@ pub fn pds_bad(pds: &[u8]) -> bool
 fn front(pds: &[u8], found: Found) -> Refusal
     ensures { λ r. ⌜ r ≡ first (frontRows (now (pds .entry)) found) ⌝ }
 {
-    let none = Refusal { number: 0 };
-    let ground = refuse(
-        7,
-        grid_missing(found),
-        refuse(9, grid_bad(the_grid(found)), none),
-    );
+    let ground = refuse(7, grid_missing(found), last(9, grid_bad(the_grid(found))));
     refuse(5, pds_bad(pds), refuse(6, time_bad(pds, 0), ground))
 }
 
-// Whether one of the first n bits of a stored bitmap is not the same number as the mark.
-fn marks_differ(store: &[u8], marks: &[u8], n: usize) -> bool
-    requires { ⌜ n ≤ length (now marks) ⌝ }
-    requires { ⌜ octetsFor n ≤ length (now store) ⌝ }
-    ensures { λ r. ⌜ r ≡ marksDiffer (now (store .entry)) (now (marks .entry)) n ⌝ }
+// Whether so many values, and the marks, are those of n points.
+pub(crate) fn lists_fit(many: usize, marks: &[u8], n: u32) -> bool
+    ensures { λ r. ⌜ r ≡ eqb many n && eqb (length (now (marks .entry))) (marksLong n) ⌝ }
 {
-    let mut bad = false;
-    let mut i: usize = 0;
-    while i < n {
-        let bit = (store[i / 8] >> (7 - i % 8)) % 2;
-        bad = bad | (bit != marks[i]);
-        i += 1;
-    }
-    bad
+    (many == n as usize) & (marks.len() == long(n))
 }
 
 // 10, of a form that wants the stored bitmap of a number.
@@ -84,8 +75,8 @@ fn store_bad(number: u16, store: &[u8], wanted: u16, long: usize, marks: &[u8], 
     if (wanted == 0) | (number != wanted) | (store.len() < (n as usize + 7) / 8) {
         return true;
     }
-    if (long == n as usize) & (marks.len() == n as usize) {
-        return marks_differ(store, marks, n as usize);
+    if lists_fit(long, marks, n) {
+        return unlike(store, 0, marks, n);
     }
     false
 }
@@ -130,7 +121,7 @@ fn middle(
     refuse(
         10,
         stored_bad(bitmap, number, store, long, marks, n),
-        refuse(11, scale_bad(scale, form.packing), Refusal { number: 0 }),
+        last(11, scale_bad(scale, form.packing)),
     )
 }
 
@@ -155,37 +146,22 @@ pub(crate) fn judge_early(
     middle(form, scale, number, store, long, marks, n)
 }
 
-// Whether a value other than 0 stands at an absent point. No branch on what stands there.
-fn stray(values: &[u32], marks: &[u8]) -> bool
-    requires { ⌜ length (now values) ≡ length (now marks) ⌝ }
-    ensures { λ r. ⌜ r ≡ strays (now (values .entry)) (now (marks .entry)) (length (now (marks .entry))) ⌝ }
-{
-    let mut bad = false;
-    let mut i: usize = 0;
-    while i < marks.len() {
-        bad = bad | ((marks[i] == 0) & (values[i] != 0));
-        i += 1;
-    }
-    bad
-}
-
-// The same, which is asked only where points may be absent.
-fn lost(bitmap: bool, values: &[u32], marks: &[u8]) -> bool
-    requires { ⌜ length (now values) ≡ length (now marks) ⌝ }
-    ensures { λ r. ⌜ r ≡ bitmap && strays (now (values .entry)) (now (marks .entry)) (length (now (marks .entry))) ⌝ }
+// Whether a value other than 0 stands at an absent point, which is asked only where points may be absent.
+fn lost(bitmap: bool, values: &[u32], marks: &[u8], n: u32) -> bool
+    ensures { λ r. ⌜ r ≡ bitmap && strays (now (values .entry)) (now (marks .entry)) n ⌝ }
 {
     if bitmap {
-        return stray(values, marks);
+        return stray(values, marks, n);
     }
     false
 }
 
-// 13, at one of the points. Marks and values each in a loop of their own: lists of one width go through the machine faster.
-fn points_bad(bitmap: bool, bits: u8, values: &[u32], marks: &[u8]) -> bool
-    requires { ⌜ length (now values) ≡ length (now marks) ⌝ }
-    ensures { λ r. ⌜ r ≡ pointsBad bitmap bits (now (values .entry)) (now (marks .entry)) (length (now (marks .entry))) ⌝ }
+// 13, at one of n points. Marks and values each in a loop of their own: lists of one width go through the machine faster.
+fn points_bad(bitmap: bool, bits: u8, values: &[u32], marks: &[u8], n: u32) -> bool
+    requires { ⌜ length (now values) ≡ n ⌝ }
+    ensures { λ r. ⌜ r ≡ pointsBad bitmap bits (now (values .entry)) (now (marks .entry)) n ⌝ }
 {
-    marks_off(bitmap, marks) | lost(bitmap, values, marks) | !all_below(values, bits)
+    marks_off(bitmap, marks, n) | lost(bitmap, values, marks, n) | !all_below(values, bits)
 }
 
 // Whether the PDS at a slice's start announces a grid section.
@@ -224,12 +200,12 @@ pub(crate) fn bitmap_given(bitmap: Bitmap) -> bool
 fn lists_bad(pds: &[u8], form: Form, values: &[u32], marks: &[u8], n: u32) -> bool
     ensures { λ r. ⌜ r ≡ anyOf (listFaults (now (pds .entry)) form (now (values .entry)) (now (marks .entry)) n) ⌝ }
 {
-    if (values.len() == n as usize) & (marks.len() == n as usize) {
+    if lists_fit(values.len(), marks, n) {
         let grid = form.grid;
         let bitmap = form.bitmap;
         let ground = grid_given(grid);
         let gaps = bitmap_given(bitmap);
-        return points_bad(gaps, form.packing.bits, values, marks)
+        return points_bad(gaps, form.packing.bits, values, marks, n)
             | choose(has_grid(pds), !ground, ground)
             | choose(has_bitmap(pds), !gaps, gaps);
     }
@@ -264,9 +240,5 @@ pub fn judge(
     if early.number != 0 {
         return early;
     }
-    refuse(
-        13,
-        lists_bad(pds, form, values, marks, n),
-        Refusal { number: 0 },
-    )
+    last(13, lists_bad(pds, form, values, marks, n))
 }

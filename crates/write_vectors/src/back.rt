@@ -1,26 +1,31 @@
 // Whether reading a message gives back the parts that it was written of: grid, bitmap, packing, E and R, the PDS, every value and mark.
+use crate::POINTS;
 use crate::line::word;
 use rules::Bitmap;
 use rules::Form;
 use rules::Found;
+use rules::Geometry;
 use rules::Grid;
 use rules::Header;
 use rules::Scale;
-use rules::bounds::POINTS_MOST;
+use rules::Shape;
 
-const ROOM: usize = POINTS_MOST as usize;
+fn same_shape(a: Shape, b: Shape) -> bool {
+    (a.ni == b.ni) & (a.nj == b.nj) & (a.scan == b.scan)
+}
 
-fn same_grid(a: Grid, b: Grid) -> bool {
-    (a.ni == b.ni)
-        & (a.nj == b.nj)
-        & (a.la1.value == b.la1.value)
+fn same_geometry(a: Geometry, b: Geometry) -> bool {
+    (a.la1.value == b.la1.value)
         & (a.lo1.value == b.lo1.value)
         & (a.flags == b.flags)
         & (a.la2.value == b.la2.value)
         & (a.lo2.value == b.lo2.value)
         & (a.di == b.di)
         & (a.dj == b.dj)
-        & (a.scan == b.scan)
+}
+
+fn same_grid(a: Grid, b: Grid) -> bool {
+    same_shape(a.shape, b.shape) & same_geometry(a.geometry, b.geometry)
 }
 
 // The grid given is the message's; where none was, it has no grid section.
@@ -102,8 +107,8 @@ pub(crate) fn read_back(
     values: &[u32],
     marks: &[u8],
 ) {
-    let mut own_values = [0u32; ROOM];
-    let mut own_marks = [0u8; ROOM];
+    let mut own_values = [0u32; POINTS];
+    let mut own_marks = [0u8; POINTS];
     let h = field::read(s, number, store, &mut own_values, &mut own_marks);
     let own_pds = parts::section(s, number, store, 1);
     let points = h.points as usize;

@@ -1,4 +1,5 @@
 // The three calls on a vector's fields and lists: 0 the writer, 1 the check, 2 the packer.
+use crate::POINTS;
 use crate::back::read_back;
 use crate::fields::call;
 use crate::fields::decimal;
@@ -11,9 +12,6 @@ use crate::output::fill_output;
 use crate::spans::octets_part;
 use crate::spans::source_part;
 use rules::Written;
-use rules::bounds::POINTS_MOST;
-
-const ROOM: usize = POINTS_MOST as usize + 1;
 
 // The reply and the length; of a message its octets too, and whether those after it, or on a refusal all, are as they were.
 fn tell(w: Written, s: &[u8], out: &[u8]) {
@@ -102,7 +100,7 @@ fn run_source(
     marks: &[u8],
     out: &mut [u8],
 ) {
-    let mut room = [0i32; ROOM];
+    let mut room = [0i32; POINTS];
     lower(numbers, &mut room);
     let source = source_part(&room, 0, numbers.len());
     if call(fields) == 1 {

@@ -3,13 +3,16 @@
 // longitudes, one below 0 stands there as 2^31 and how far it is below -1.
 use octets::four;
 use octets::octet;
+use octets::plain;
 use octets::two;
 use rules::Bitmap;
 use rules::Form;
 use rules::Found;
+use rules::Geometry;
 use rules::Grid;
 use rules::Packing;
 use rules::Scale;
+use rules::Shape;
 use rules::Signed;
 
 pub(crate) const FIELDS: usize = 50;
@@ -23,9 +26,7 @@ pub(crate) fn lowered(x: u32) -> i32 {
 }
 
 fn signed(fields: &[u8], k: u8) -> Signed {
-    Signed {
-        value: lowered(four(fields, 0, k)),
-    }
+    plain(lowered(four(fields, 0, k)))
 }
 
 pub(crate) fn call(fields: &[u8]) -> u8 {
@@ -34,16 +35,20 @@ pub(crate) fn call(fields: &[u8]) -> u8 {
 
 fn grid(fields: &[u8]) -> Grid {
     Grid {
-        ni: two(fields, 0, 3),
-        nj: two(fields, 0, 5),
-        la1: signed(fields, 7),
-        lo1: signed(fields, 11),
-        flags: octet(fields, 0, 15),
-        la2: signed(fields, 16),
-        lo2: signed(fields, 20),
-        di: two(fields, 0, 24),
-        dj: two(fields, 0, 26),
-        scan: octet(fields, 0, 28),
+        shape: Shape {
+            ni: two(fields, 0, 3),
+            nj: two(fields, 0, 5),
+            scan: octet(fields, 0, 28),
+        },
+        geometry: Geometry {
+            la1: signed(fields, 7),
+            lo1: signed(fields, 11),
+            flags: octet(fields, 0, 15),
+            la2: signed(fields, 16),
+            lo2: signed(fields, 20),
+            di: two(fields, 0, 24),
+            dj: two(fields, 0, 26),
+        },
     }
 }
 

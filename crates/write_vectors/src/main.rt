@@ -18,15 +18,14 @@ use crate::runs::load_numbers;
 use crate::runs::load_octets;
 use crate::spans::numbers_part;
 use crate::spans::octets_part;
-use rules::bounds::MESSAGE_MOST;
-use rules::bounds::POINTS_MOST;
 
-// One octet and one element more than there may be.
-const MESSAGE: usize = MESSAGE_MOST + 1;
+// The room of this program's own lists, enough for its vectors: octets of a message, octets of a lent bitmap, points. The codec's bounds are
+// others: where they grow, the stack that this program takes does not.
+const MESSAGE: usize = 262145;
 
-const STORE: usize = POINTS_MOST as usize / 8 + 1;
+const STORE: usize = 8193;
 
-const ROOM: usize = POINTS_MOST as usize + 1;
+pub(crate) const POINTS: usize = 65537;
 
 // The call with the octets of output from one place up to another lent.
 fn run_room(
@@ -55,29 +54,41 @@ fn print_name(fd: i32) {
     io::write_all(libc::STDOUT_FILENO, octets_part(&name, 0, n));
 }
 
+fn run_output(fields: &[u8], s: &[u8], store: &[u8], numbers: &[u32], marks: &[u8]) {
+    let mut out = [0u8; MESSAGE];
+    run_room(fields, s, store, numbers, marks, &mut out, 0, room(fields));
+}
+
+// The four lists, read one after another, each into room of its own.
+fn run_marks(fd: i32, fields: &[u8], s: &[u8], store: &[u8], numbers: &[u32]) {
+    let mut marks = [0u8; POINTS];
+    let m = load_octets(fd, &mut marks);
+    run_output(fields, s, store, numbers, octets_part(&marks, 0, m));
+}
+
+fn run_numbers(fd: i32, fields: &[u8], s: &[u8], store: &[u8]) {
+    let mut numbers = [0u32; POINTS];
+    let n = load_numbers(fd, &mut numbers);
+    run_marks(fd, fields, s, store, numbers_part(&numbers, 0, n));
+}
+
+fn run_store(fd: i32, fields: &[u8], s: &[u8]) {
+    let mut store = [0u8; STORE];
+    let held = load_octets(fd, &mut store);
+    run_numbers(fd, fields, s, octets_part(&store, 0, held));
+}
+
+fn run_lists(fd: i32, fields: &[u8]) {
+    let mut s = [0u8; MESSAGE];
+    let len = load_octets(fd, &mut s);
+    run_store(fd, fields, octets_part(&s, 0, len));
+}
+
 fn run_vector(fd: i32) {
     let mut fields = [0u8; FIELDS];
-    let mut s = [0u8; MESSAGE];
-    let mut store = [0u8; STORE];
-    let mut numbers = [0u32; ROOM];
-    let mut marks = [0u8; ROOM];
-    let mut out = [0u8; MESSAGE];
     print_name(fd);
     load(fd, &mut fields, 0, FIELDS);
-    let len = load_octets(fd, &mut s);
-    let held = load_octets(fd, &mut store);
-    let n = load_numbers(fd, &mut numbers);
-    let m = load_octets(fd, &mut marks);
-    run_room(
-        &fields,
-        octets_part(&s, 0, len),
-        octets_part(&store, 0, held),
-        numbers_part(&numbers, 0, n),
-        octets_part(&marks, 0, m),
-        &mut out,
-        0,
-        room(&fields),
-    );
+    run_lists(fd, &fields);
     io::write_all(libc::STDOUT_FILENO, b"\n");
 }
 

@@ -12,18 +12,13 @@ use grid::points;
 use grid::the_grid;
 use places::SEVENS;
 use puts::put_four;
+use reply::unwritten;
+use reply::written;
 use rules::Form;
-use rules::Refusal;
 use rules::Scale;
 use rules::Written;
 use sections::lay;
 use writable::judge;
-
-fn answer(refusal: Refusal, len: u32) -> Written
-    ensures { λ r. ⌜ r ≡ record { refusal = refusal; len = len } ⌝ }
-{
-    Written { refusal, len }
-}
 
 // Writes the message of a PDS, a form, E and R, the lent bitmap of a number, and lists of values and marks. Answers its length.
 pub fn write(
@@ -44,11 +39,11 @@ pub fn write(
     let n = points(the_grid(found));
     let refusal = judge(pds, form, scale, number, store, values, marks, found, n);
     if refusal.number != 0 {
-        return answer(refusal, 0);
+        return unwritten(refusal);
     }
-    let frame = lay(pds, form, scale, marks, out);
+    let frame = lay(pds, form, scale, marks, n, out);
     if frame.len == 0 {
-        return answer(Refusal { number: 14 }, 0);
+        return written(14, 0);
     }
     let at = frame.at;
     let end = frame.len as usize - 4;
@@ -60,5 +55,5 @@ pub fn write(
         &mut out[at..],
     );
     put_four(out, end, 1, SEVENS);
-    answer(Refusal { number: 0 }, frame.len)
+    written(0, frame.len)
 }

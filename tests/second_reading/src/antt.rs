@@ -67,20 +67,25 @@ fn lent(lent: &Lent) -> String {
     )
 }
 
+fn shape(grid: &Grid) -> String {
+    format!(
+        "record {{ ni = {}; nj = {}; scan = {} }}",
+        grid.ni, grid.nj, grid.scan
+    )
+}
+
 fn grid(grid: &Grid) -> String {
     format!(
-        "record {{ ni = {}; nj = {}; la1 = {}; lo1 = {}; flags = {}; la2 = {}; lo2 = {}; \
-         di = {}; dj = {}; scan = {} }}",
-        grid.ni,
-        grid.nj,
+        "record {{ shape = {}; geometry = record {{ la1 = {}; lo1 = {}; flags = {}; la2 = {}; lo2 = {}; \
+         di = {}; dj = {} }} }}",
+        shape(grid),
         value(grid.la1),
         value(grid.lo1),
         grid.flags,
         value(grid.la2),
         value(grid.lo2),
         grid.di,
-        grid.dj,
-        grid.scan
+        grid.dj
     )
 }
 
@@ -239,7 +244,8 @@ pub fn read_statements(k: usize, case: &ReadCase) -> (String, u32) {
         text += &statement(
             &format!("{name}-places"),
             &format!(
-                "map (spotOf {ni} {nj} {scan}) {}",
+                "map (spotOn {}) {}",
+                given(&shape(&answer.grid)),
                 given(&list(0..answer.points, |point| point.to_string()))
             ),
             &list(0..answer.points, |point| {

@@ -1,25 +1,25 @@
 -- The place of a grid point, of the grid and outside: the test's two cases.
-use Rattle.rules.specs.Chart.{charted}
-use Rattle.bits.proofs.Products.{product}
-use borrow.Author.Tests.{lt-ltb, le-ltb}
-use Rattle.bits.proofs.Products.{left-positive, right-positive}
-use native.Mathlib.Omega.{arith}
+use Rattle.chart.proofs.Laws.{sides, on, off}
+use borrow.Author.Needs.{needs}
 use Rattle.chart.proofs.spot_of.Statement.{statement}
 use Rattle.chart.proofs.spot_of.Tie as tie
 
-mul-if1 : tie.Need-mul-if1
-mul-if1 c = record { fits = product 65535 65535 4294967296 tt _ _ (omega arith) (omega arith) }
-
 spot-requires : tie.Need-spot-requires
-spot-requires c κs = (left-positive _ _ _ (c .if1 .taken), right-positive _ _ _ (c .if1 .taken))
+spot-requires c κs =
+    let t = c .before .before in
+    let b = t .before .before in
+    sides (b .before .args .g) (b .before .args .k) _ (b .points-on .ensures) (t .if1 .taken)
 
 returns : tie.Need-returns
-unfolding charted
-returns c = simp (lt-ltb _ _ (c .before .if1 .taken), c .spot .ensures)
+returns c =
+    let t = c .before .before .before in
+    let b = t .before .before in
+    on (b .before .args .g) (b .before .args .k) _ (b .points-on .ensures) (t .if1 .taken) _ (c .spot .ensures)
 
 returns-2 : tie.Need-returns-2
-unfolding charted
-returns-2 c = simp (le-ltb _ _ (c .if1 .left))
+returns-2 c =
+    let b = c .before .before in
+    off (b .before .args .g) (b .before .args .k) _ (b .points-on .ensures) (c .if1 .left)
 
 pub spot-of-spec : {M : Type 1} → statement M
-spot-of-spec = tie.close (tie.spec mul-if1 spot-requires returns returns-2)
+spot-of-spec = tie.close (tie.spec (λ c κs. search needs) (λ c. search needs) (λ c. search needs) spot-requires returns returns-2)

@@ -1,4 +1,5 @@
 -- Refused by the message's own rows, by 16, or shown: three returns, each one law of Laws.
+use mathlib.Core.Path.{_∙_, ap}
 use Rattle.display.proofs.Laws as L
 use borrow.Author.Needs.{needs}
 use Rattle.display.proofs.display.Statement.{statement}
@@ -8,7 +9,9 @@ returns : tie.Need-returns
 returns c = L.early _ _ _ (c .before .before .before .header .ensures) (c .before .if1 .taken) _ (c .refused .ensures)
 
 returns-2 : tie.Need-returns-2
-returns-2 c = L.late _ _ _ (c .before .before .before .before .before .header .ensures) (c .before .before .before .if1 .left) _ (c .before .before .beyond .ensures) (c .before .if2 .taken) _ (c .refused2 .ensures)
+returns-2 c =
+    let t = c .before .before in
+    L.late _ _ _ (t .before .before .before .before .header .ensures) (t .before .before .if1 .left) _ (t .before .beyond .ensures) (t .if2 .taken) _ (c .refused2 .ensures ∙ ap L.blank (c .before .refusal .ensures))
 
 shown-requires : tie.Need-shown-requires
 shown-requires c κs = L.in-range (c .before .before .before .before .header .result .scale) _ (c .before .beyond .ensures) (c .if2 .left)
@@ -23,6 +26,7 @@ display-spec =
     (λ c κs. search needs)
     (λ c κs. search needs)
     returns
+    (λ c κs. search needs)
     (λ c κs. search needs)
     (λ c κs. search needs)
     returns-2

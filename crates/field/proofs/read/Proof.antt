@@ -14,44 +14,48 @@ returns c =
 
 returns-2 : tie.Need-returns-2
 returns-2 c =
-    let other = c .before .before in
+    let short = c .before .before in
+    let long = short .before in
+    let other = long .before in
     let asked = other .before .before in
     let a = asked .before .before .before .before .before .args in
-    A.too-short _ _ (a .values .now) (a .marks .now) _ (asked .header .ensures) (other .if1 .left) (c .before .if2 .taken) _ (c .refused .ensures)
+    A.too-short _ _ (a .values .now) (a .marks .now) _ (asked .header .ensures) (other .if1 .left) _ (long .long .ensures) (short .if2 .taken) _ (c .before .refusal .ensures) _ (c .refused .ensures)
 
 add-at : tie.Need-add-at
 add-at c =
-    let other = c .before .before .before in
+    let other = c .before .before .before .before in
     let asked = other .before .before in
     let a = asked .before .before .before .before .before .args in
     omega (arith, A.early _ _ (a .values .now) (a .marks .now) _ (asked .header .ensures) (other .if1 .left))
 
 mul-at : tie.Need-mul-at
 mul-at c =
-    let other = c .before .before .before in
+    let other = c .before .before .before .before in
     let asked = other .before .before in
     let a = asked .before .before .before .before .before .args in
     omega (arith, A.early _ _ (a .values .now) (a .marks .now) _ (asked .header .ensures) (other .if1 .left))
 
-fill-requires : tie.Need-fill-requires
-fill-requires c κs =
-    let long = c .before .before .before .before in
+fill-lists-requires : tie.Need-fill-lists-requires
+fill-lists-requires c κs =
+    let fits = c .before .before .before .before in
+    let long = fits .before in
     let other = long .before in
     let asked = other .before .before in
     let a = asked .before .before .before .before .before .args in
     let e = asked .header .ensures in
     let z = other .if1 .left in
-    let r = A.room _ _ (a .values .now) (a .marks .now) _ e z (long .if2 .left) in
-    (A.narrow _ _ (a .values .now) (a .marks .now) _ e z, (A.counted _ _ (a .values .now) (a .marks .now) _ e z, (A.lies _ _ (a .values .now) (a .marks .now) _ e z, (r .0, r .1))))
+    let r = A.room _ _ (a .values .now) (a .marks .now) _ e z _ (long .long .ensures) (fits .if2 .left) in
+    (A.narrow _ _ (a .values .now) (a .marks .now) _ e z, (A.counted _ _ (a .values .now) (a .marks .now) _ e z, (A.lies _ _ (a .values .now) (a .marks .now) _ e z, r .0)))
 
 returns-3 : tie.Need-returns-3
 returns-3 c =
     let filled = c .before .before .before .before in
-    let long = filled .before .before .before .before .before in
+    let fits = filled .before .before .before .before .before in
+    let long = fits .before in
     let other = long .before in
     let asked = other .before .before in
     let a = asked .before .before .before .before .before .args in
-    A.done _ _ (a .values .now) (a .marks .now) _ (asked .header .ensures) (other .if1 .left) (long .if2 .left) _ _ (filled .fill .ensures .0) (filled .fill .ensures .1)
+    A.done _ _ (a .values .now) (a .marks .now) _ (asked .header .ensures) (other .if1 .left) _ (long .long .ensures) (fits .if2 .left) _ _ (filled .fill-lists .ensures .0) (filled .fill-lists .ensures .1)
 
 pub read-spec : {M : Type 1} → statement M
 read-spec =
@@ -60,12 +64,13 @@ read-spec =
     (λ c κs. search needs)
     returns
     (λ c. search needs)
-    (λ c. search needs)
+    (λ c κs. search needs)
+    (λ c κs. search needs)
     (λ c κs. search needs)
     returns-2
     add-at
     mul-at
-    fill-requires
+    fill-lists-requires
     (λ c. search needs)
     (λ c. search needs)
     returns-3)

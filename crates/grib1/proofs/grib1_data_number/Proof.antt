@@ -1,6 +1,6 @@
 -- The answer below, as a record.
 use mathlib.Core.Path.{_∙_, ap}
-use Rattle.records.specs.Records.{dataRecord}
+use Rattle.point_records.specs.Records.{dataRecord}
 use borrow.Author.Needs.{needs}
 use Rattle.grib1.proofs.grib1_data_number.Statement.{statement}
 use Rattle.grib1.proofs.grib1_data_number.Tie as tie

@@ -7,17 +7,14 @@ use Rattle.grid.proofs.grid_bad.Tie as tie
 
 returns : tie.Need-returns
 unfolding anyOf orAll gridFaults scanBad
-returns c = rw (c .scan-bad .ensures, c .before .longitude-bad2 .ensures, c .before .before .longitude-bad .ensures, c .before .before .before .latitude-bad2 .ensures, c .before .before .before .before .latitude-bad .ensures, c .before .before .before .before .before .points2 .ensures, c .before .before .before .before .before .before .points .ensures)
+returns c = rw (
+  c .scan-bad .ensures,
+  c .before .longitude-bad2 .ensures,
+  c .before .before .longitude-bad .ensures,
+  c .before .before .before .latitude-bad2 .ensures,
+  c .before .before .before .before .latitude-bad .ensures,
+  c .before .before .before .before .before .shape-bad .ensures,
+)
 
 pub grid-bad-spec : {M : Type 1} → statement M
-grid-bad-spec =
-    tie.close
-    (tie.spec
-    (λ c κs. search needs)
-    (λ c κs. search needs)
-    (λ c κs. search needs)
-    (λ c κs. search needs)
-    (λ c κs. search needs)
-    (λ c κs. search needs)
-    (λ c κs. search needs)
-    returns)
+grid-bad-spec = tie.close (tie.spec (λ c κs. search needs) (λ c κs. search needs) (λ c κs. search needs) (λ c κs. search needs) (λ c κs. search needs) (λ c κs. search needs) returns)

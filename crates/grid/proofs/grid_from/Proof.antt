@@ -10,7 +10,7 @@ returns c = rw (c .before .given .given .1)
 
 returns-2 : tie.Need-returns-2
 unfolding gridFrom
-returns-2 c = rw (c .before .before .enum-told .given .1, c .find .ensures, c .before .octet .ensures)
+returns-2 c = rw (c .before .before .enum-told .given .1, c .catalogued .ensures, c .before .octet .ensures)
 
 pub grid-from-spec : {M : Type 1} → statement M
 grid-from-spec =

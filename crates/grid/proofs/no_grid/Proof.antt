@@ -6,7 +6,7 @@ use Rattle.grid.proofs.no_grid.Tie as tie
 
 returns : tie.Need-returns
 unfolding noGrid
-returns c = search needs
+returns c = rw (c .plain .ensures) (search needs)
 
 pub no-grid-spec : {M : Type 1} → statement M
-no-grid-spec = tie.close (tie.spec returns)
+no-grid-spec = tie.close (tie.spec (λ c κs. search needs) returns)

@@ -1,5 +1,4 @@
--- The refused answer: the definition opened.
-use Rattle.rules.specs.Grid.{noGrid}
+-- The refused answer: the definition opened, call by call.
 use Rattle.rules.specs.Time.{noMoment}
 use Rattle.rules.specs.Reading.{refusedBy}
 use borrow.Author.Needs.{needs}
@@ -7,8 +6,8 @@ use Rattle.message.proofs.refused.Statement.{statement}
 use Rattle.message.proofs.refused.Tie as tie
 
 returns : tie.Need-returns
-unfolding refusedBy noGrid noMoment
-returns c = search needs
+unfolding refusedBy noMoment
+returns c = rw (c .the-grid .ensures, c .before .plain .ensures)
 
 pub refused-spec : {M : Type 1} → statement M
-refused-spec = tie.close (tie.spec returns)
+refused-spec = tie.close (tie.spec (λ c κs. search needs) (λ c κs. search needs) returns)

@@ -9,8 +9,8 @@ use Rattle.records.proofs.header_record.Tie as tie
 
 returns : tie.Need-returns
 returns c =
-    let d = c .before .before .before .before .before .before .before .before .plain in
-    let e = c .before .before .before .before .before .before .before .plain2 in
+    let d = c .before .before .before .before .before .before .before .before .value in
+    let e = c .before .before .before .before .before .before .before .value2 in
     header-made (c .before .before .before .before .before .before .before .before .before .before .before .args .h) _ _ _ _ _ _ _ _ _
     (toZ-ofZ {w = w32} {z = d .result} (record { sfits = d .ok }) ∙ d .ensures)
     (toZ-ofZ {w = w32} {z = e .result} (record { sfits = e .ok }) ∙ e .ensures)

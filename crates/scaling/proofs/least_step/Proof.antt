@@ -1,16 +1,17 @@
--- The least E that fits: at each E passed the spread fills the N bits; the measure is what is left of 25.
+-- The least E that fits: at each E passed the spread fills the N bits; the measure is what is left of the E there are.
 use Rattle.scaling.proofs.Choosing.{NoneBefore, least-end, least-found, least-on}
 use borrow.Author.Needs.{needs}
 use native.Mathlib.Omega.{arith}
-use Prim.Native.Nat.{_≤_, _-_}
+use Prim.Native.Nat.{suc, _≤_, _-_}
+use Rattle.rules.specs.Bounds.{stepMost}
 use Rattle.scaling.proofs.least_step.Statement.{statement}
 use Rattle.scaling.proofs.least_step.Tie as tie
 
 abbrev Inv-loop : tie.InvT-loop
-Inv-loop bits r e₀ e = (e ≤ 25) × NoneBefore bits r e
+Inv-loop bits r e₀ e = (e ≤ suc stepMost) × NoneBefore bits r e
 
 abbrev μ-loop : tie.MeasureT-loop
-μ-loop bits r e₀ e = 25 - e
+μ-loop bits r e₀ e = suc stepMost - e
 
 loop-holds : tie.Need-loop-holds Inv-loop μ-loop
 loop-holds c = (omega arith, λ k l. absurd (omega arith))

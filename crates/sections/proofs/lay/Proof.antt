@@ -4,7 +4,8 @@ use mathlib.Core.Bool.{false}
 use native.Mathlib.Omega.{arith}
 use Prim.Native.Nat.{_≤_}
 use lib.ListN.{length}
-use Rattle.sections.specs.Layout.{messageRoom}
+use Rattle.rules.specs.Bounds.{pointsMost}
+use Rattle.sections.specs.Layout.{presentIn, messageRoom, roomMost}
 use Rattle.sections.specs.Framing.{unsound}
 use Rattle.sections.proofs.Lengths.{message-few}
 use Rattle.sections.proofs.Marks.{present-few}
@@ -16,37 +17,35 @@ use Rattle.sections.proofs.lay.Tie as tie
 abbrev start : tie.Else1 → tie.Start
 start i = i .before .before .before .before .before .before .before
 
-sound : (i : tie.Else1) → let a = start i .args in unsound (a .pds .now) (a .form) (a .scale) (a .marks .now) ≡ false
+sound : (i : tie.Else1) → let a = start i .args in unsound (a .pds .now) (a .form) (a .scale) (a .n) ≡ false
 sound i =
     let a = start i .args in
-    parts-sound (a .pds .now) (a .form) (a .scale) (a .marks .now) _ _ (i .before .before .given-bad .ensures) (i .before .scale-bad .ensures) (i .if1 .left)
+    parts-sound (a .pds .now) (a .form) (a .scale) (a .marks .now) (a .n) _ _ (i .before .before .given-bad .ensures) (i .before .scale-bad .ensures) (i .if1 .left)
 
-bounds : (i : tie.Else1) → let a = start i .args in Sound (a .pds .now) (a .form) (a .scale) (a .marks .now)
+bounds : (i : tie.Else1) → let a = start i .args in Sound (a .pds .now) (a .form) (a .scale) (a .marks .now) (a .n)
 bounds i =
     let a = start i .args in
-    sound-of (a .pds .now) (a .form) (a .scale) (a .marks .now) (sound i)
+    sound-of (a .pds .now) (a .form) (a .scale) (a .marks .now) (a .n) (sound i)
 
-few : (m : tie.After-present) → m .present .result ≤ 65536
-few m = omega (arith, m .present .ensures, present-few (start (m .before) .args .marks .now), bounds (m .before) .few)
+present : (m : tie.After-count) → m .count .result ≡ presentIn (start (m .before) .args .marks .now) (start (m .before) .args .n)
+unfolding presentIn
+present m = m .count .ensures
 
-small : (s : tie.After-message-room) → s .message-room .result ≤ 205886
+few : (m : tie.After-count) → m .count .result ≤ pointsMost
+few m = omega (arith, present m, present-few (start (m .before) .args .marks .now) (start (m .before) .args .n), bounds (m .before) .few)
+
+small : (s : tie.After-message-room) → s .message-room .result ≤ roomMost
 small s =
     let i = s .before .before in
     let a = start i .args in
     let q = bounds i in
-    omega (arith, s .message-room .ensures, message-few (length (a .pds .now)) (a .form) (length (a .marks .now)) (s .before .present .result) (q .pds-most) (q .few) (few (s .before)) (q .bits))
+    omega (arith, s .message-room .ensures, message-few (length (a .pds .now)) (a .form) (a .n) (s .before .count .result) (q .pds-most) (q .few) (few (s .before)) (q .bits))
 
 returns : tie.Need-returns
 returns c =
     let a = c .before .before .before .before .before .before .before .args in
-    let r = refused-parts (a .pds .now) (a .form) (a .scale) (a .marks .now) (a .out .now) _ _ (c .before .before .given-bad .ensures) (c .before .scale-bad .ensures) (c .if1 .taken) in
+    let r = refused-parts (a .pds .now) (a .form) (a .scale) (a .marks .now) (a .n) (a .out .now) _ _ (c .before .before .given-bad .ensures) (c .before .scale-bad .ensures) (c .if1 .taken) in
     (r .0, r .1)
-
-present-requires : tie.Need-present-requires
-present-requires c κs = bounds c .few
-
-cast-message-room : tie.Need-cast-message-room
-cast-message-room c = omega (arith, bounds (c .before) .few)
 
 message-room-requires : tie.Need-message-room-requires
 message-room-requires c κs = let q = bounds (c .before) in (q .pds-most, (q .few, (few c, q .bits)))
@@ -56,7 +55,7 @@ returns-2 c =
     let s = c .before in
     let i = s .before .before in
     let a = start i .args in
-    let r = refused-room (a .pds .now) (a .form) (a .scale) (a .marks .now) (a .out .now) (sound i) _ (s .message-room .ensures ∙ ap (messageRoom (length (a .pds .now)) (a .form) (length (a .marks .now))) (s .before .present .ensures)) (c .if2 .taken) in
+    let r = refused-room (a .pds .now) (a .form) (a .scale) (a .marks .now) (a .n) (a .out .now) (sound i) _ (s .message-room .ensures ∙ ap (messageRoom (length (a .pds .now)) (a .form) (a .n)) (present (s .before))) (c .if2 .taken) in
     (r .0, r .1)
 
 cast-lay-front : tie.Need-cast-lay-front
@@ -86,8 +85,8 @@ add-t12 c =
     let s = d .before .before .before in
     omega (arith, small s, s .message-room .ensures, d .lay-front .ensures .0)
 
-cast-t22 : tie.Need-cast-t22
-cast-t22 c = omega (arith, small (c .before .before .before .before .before .before .before .before .before))
+cast-t21 : tie.Need-cast-t21
+cast-t21 c = omega (arith, small (c .before .before .before .before .before .before .before .before .before))
 
 returns-3 : tie.Need-returns-3
 returns-3 c =
@@ -97,7 +96,7 @@ returns-3 c =
     let s = e .before in
     let i = s .before .before in
     let a = start i .args in
-    let r = laid-down (a .pds .now) (a .form) (a .scale) (a .marks .now) (a .out .now) (sound i) _ (s .before .present .ensures) _ (s .message-room .ensures) (e .if2 .left) _ (d .lay-front .ensures .0) _ (d .lay-front .ensures .1) _ (h .put-head .ensures) in
+    let r = laid-down (a .pds .now) (a .form) (a .scale) (a .marks .now) (a .n) (a .out .now) (sound i) _ (present (s .before)) _ (s .message-room .ensures) (e .if2 .left) _ (d .lay-front .ensures .0) _ (d .lay-front .ensures .1) _ (h .put-head .ensures) in
     (r .0, r .1)
 
 pub lay-spec : {M : Type 1} → statement M
@@ -105,18 +104,16 @@ lay-spec =
     tie.close
     (tie.spec
     (λ c. search needs)
-    (λ c. search needs)
     (λ c κs. search needs)
     (λ c κs. search needs)
     returns
-    present-requires
-    cast-message-room
+    (λ c κs. search needs)
     message-room-requires
     returns-2
     cast-lay-front
     lay-front-requires
     put-head-requires
     add-t12
-    cast-t22
+    cast-t21
     (λ c. search needs)
     returns-3)

@@ -27,7 +27,7 @@ returns c =
     let i = c .before in
     let a = i .before .before .before .before .before .before .before .before .before .before .before .args in
     let r = refused-early (a .pds .now) (a .form) (a .scale) (a .number) (a .store .now) (a .values .now) (a .marks .now) (a .out .now) _ (i .before .before .before .before .before .grid-from .ensures) _ (i .before .before .before .before .the-grid .ensures) _ (i .before .before .before .points .ensures) _ (i .before .before .judge .ensures) (i .if1 .taken) in
-    (c .answer .ensures ∙ r .0, r .1)
+    (c .unwritten .ensures ∙ r .0, r .1)
 
 returns-2 : tie.Need-returns-2
 returns-2 c =
@@ -36,7 +36,7 @@ returns-2 c =
     let i = l .before .before in
     let a = start i .args in
     let r = refused-late (a .pds .now) (a .form) (a .scale) (a .number) (a .store .now) (a .values .now) (a .marks .now) (a .out .now) _ (i .before .before .before .before .before .grid-from .ensures) _ (i .before .before .before .before .the-grid .ensures) _ (i .before .before .before .points .ensures) _ (i .before .before .judge .ensures) (i .if1 .left) _ (l .lay .ensures .0) (t .if2 .taken) _ (l .lay .ensures .1) in
-    (c .answer2 .ensures ∙ r .0, r .1)
+    (c .written .ensures ∙ r .0, r .1)
 
 sub-end : tie.Need-sub-end
 sub-end c = omega (arith, room (c .before) .end)
@@ -52,7 +52,7 @@ put-values-requires c κs =
     let e = c .before .before in
     let l = laid e in
     let q = room e in
-    (q .bits, (q .listed, (q .present, omega (arith, q .data-room, l .lay .kept, part-length (l .lay .last .1 .1 .1 .1 .0) (l .lay .result .at)))))
+    (q .bits, (q .listed, (q .present, omega (arith, q .data-room, l .lay .kept, part-length (l .lay .last .1 .1 .1 .1 .1 .0) (l .lay .result .at)))))
 
 returns-3 : tie.Need-returns-3
 returns-3 c =
@@ -63,7 +63,7 @@ returns-3 c =
     let i = l .before .before in
     let a = start i .args in
     let r = written (a .pds .now) (a .form) (a .scale) (a .number) (a .store .now) (a .values .now) (a .marks .now) (a .out .now) _ (i .before .before .before .before .before .grid-from .ensures) _ (i .before .before .before .before .the-grid .ensures) _ (i .before .before .before .points .ensures) _ (i .before .before .judge .ensures) (i .if1 .left) _ (l .lay .ensures .0) (e .if2 .left) _ (l .lay .ensures .1) _ (v .put-values .ensures) _ (f .put-four .ensures .1) in
-    (c .answer3 .ensures ∙ r .0, r .1)
+    (c .written2 .ensures ∙ r .0, r .1)
 
 pub write-spec : {M : Type 1} → statement M
 write-spec =

@@ -1,59 +1,78 @@
 -- The rows 18, 15, 16 and 17: two returns, each a law of Stages over what the calls promise.
 use Rattle.checker.proofs.Rows.{bits-most, data-start}
-use Rattle.checker.proofs.Stages.{sizes-bad, sizes-good, first-of}
+use Rattle.checker.proofs.Stages.{source-refused, source-good, first-of}
 use borrow.Author.Needs.{needs}
 use native.Mathlib.Omega.{arith}
 use mathlib.Core.Path.{_∙_}
+use Prim.Native.Nat.{_<_, _^_}
 use mir.Syntax.{w32}
 use mir.Facts.{toZ-ofZ}
+use Rattle.laws.specs.Sources.{WellFormed}
 use Rattle.checker.proofs.judging.judge.Statement.{statement}
 use Rattle.checker.proofs.judging.judge.Tie as tie
 
+abbrev start : tie.After-source-bad → tie.Start
+start b = b .before .before .before .before
+
 returns : tie.Need-returns
-returns c = sizes-bad _ _ _ _ _ (c .if1 .taken)
+returns c =
+    let t = c .before in
+    let a = start (t .before) .args in
+    source-refused _ _ _ _ (a .d) _ (t .before .source-bad .ensures (a .d)) (t .if1 .taken) _ (c .refusal .ensures)
+
+-- once 18 has passed
+good : (t : tie.Else1) → let a = start (t .before) .args in WellFormed (record { numbers = a .numbers .now; marks = a .marks .now; d = a .d })
+good t =
+    let a = start (t .before) .args in
+    source-good (a .s .now) (record { number = a .number; octets = a .store .now }) (a .numbers .now) (a .marks .now) (a .d) _ (t .before .source-bad .ensures (a .d)) (t .if1 .left)
+
+begins : (t : tie.Else1) → start (t .before) .args .h .places .bds .start < 2 ^ 26
+begins t = let f = start (t .before) in data-start _ _ _ (f .pre .0) (f .pre .1)
+
+cast-n : tie.Need-cast-n
+cast-n c = record { fits = omega (arith, good c .most) }
 
 add-from : tie.Need-add-from
-add-from c =
-    let b = c .before .before .before .before .before .before .before .before in
-    record { fits = omega (arith, data-start _ _ _ (b .pre .0) (b .pre .1)) }
+add-from c = record { fits = omega (arith, begins (c .before .before .before .before)) }
 
 mul-from : tie.Need-mul-from
-mul-from c =
-    let b = c .before .before .before .before .before .before .before .before in
-    record { fits = omega (arith, data-start _ _ _ (b .pre .0) (b .pre .1)) }
+mul-from c = record { fits = omega (arith, begins (c .before .before .before .before)) }
 
-survey-requires : tie.Need-survey-requires
-survey-requires c κs =
-    let t = c .before .before .before .before .before .before in
-    let b = t .before .before .before .before in
-    let from = data-start _ _ _ (b .pre .0) (b .pre .1) in
-    ((c .step-of .ensures .0, (bits-most _ _ _ (b .pre .0) (b .pre .1), omega (arith, from))), sizes-good (b .args .numbers .now) (b .args .marks .now) (t .if1 .left))
+any-far-requires : tie.Need-any-far-requires
+any-far-requires c κs =
+    let t = c .before .before .before .before .before .before .before .before .before .before in
+    let f = start (t .before) in
+    ((c .step-of .ensures .0, (bits-most _ _ _ (f .pre .0) (f .pre .1), omega (arith, begins t))), (good t .lists, good t .most))
 
 returns-2 : tie.Need-returns-2
 returns-2 c =
-    let k = c .before .before .before in
-    let q = k .before .before .before in
-    let v = q .before .before .before .before in
-    let w = v .before .before in
-    let t = w .before .before .before .before .before in
-    let b = t .before .before .before .before in
+    let k = c .before .before .before .before .before in
+    let w = k .before .before in
+    let d = w .before in
+    let m = d .before .before .before in
+    let t = m .before .before .before .before .before in
+    let f = start (t .before) in
+    let a = f .args in
     let r = toZ-ofZ {w = w32} {z = w .whole-of .result} (record { sfits = w .whole-of .ok }) ∙ w .whole-of .ensures in
-    first-of _ _ _ _ _ (t .if1 .left) _ (b .pre .0) (b .pre .1) _ (toZ-ofZ (b .fits .d)) _ r _ (v .before .step-of .ensures .1) _ _ _ _ (v .survey .ensures) _ (k .before .before .scale-bad .ensures) _
-    (q .decimal-differs .ensures) _ _ _ _ (k .before .refuse .ensures) (k .refuse2 .ensures) (c .before .refuse3 .ensures) (c .refuse4 .ensures)
+    first-of (a .s .now) _ (a .numbers .now) (a .marks .now) (a .d) _ (t .before .source-bad .ensures (a .d)) (t .if1 .left) _ (f .pre .0) (f .pre .1) _ (toZ-ofZ (f .fits .d)) _ r _ (k .before .step-of .ensures .1)
+    _ (m .marks-differ .ensures) _ (d .decimal-differs .ensures) _ (k .any-far .ensures) _ (c .before .before .before .scale-bad .ensures) _ _ _ _
+    (c .before .before .before .before .refusal2 .ensures) (c .before .before .refuse .ensures) (c .before .refuse2 .ensures) (c .refuse3 .ensures)
 
 pub judge-spec : {M : Type 1} → statement M
 judge-spec =
     tie.close
     (tie.spec
-    (λ c. search needs)
+    (λ c κs. search needs)
+    (λ c κs. search needs)
     returns
+    cast-n
     add-from
     mul-from
     (λ c κs. search needs)
     (λ c κs. search needs)
-    survey-requires
-    (λ c. search needs)
     (λ c κs. search needs)
+    (λ c κs. search needs)
+    any-far-requires
     (λ c κs. search needs)
     (λ c κs. search needs)
     (λ c κs. search needs)

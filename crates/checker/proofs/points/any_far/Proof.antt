@@ -1,72 +1,123 @@
--- The points out among those passed, as many more in a turn as X are held (law far-more); R is read back.
-use mathlib.Core.Path.{_≡_, refl, ap₂, _∙_}
-use native.Mathlib.Nat.{mul-le-mul}
-use lib.IntN.{ℤ, pos}
+-- The points out among those passed, a block more in a turn (law far-more), with as many X passed as points are present; R is read back.
+use mathlib.Core.Path.{_≡_, refl, sym, ap₂, _∙_}
+use native.Mathlib.Omega.{arith}
+use Prim.Native.Nat.{ℕ, _≤_, _+_, _-_, _*_}
+use lib.IntN.{ℤ}
+use lib.ListN.{length}
 use mir.Syntax.{w32}
 use mir.Val.{toZ}
 use mir.Facts.{toZ-ofZ}
-use Rattle.bits.specs.Bits.{bitsIn, run}
+use borrow.Author.Needs.{needs}
+use Rattle.bits.specs.Bits.{count}
 use Rattle.bits.specs.Tables.{anyBelow}
 use Rattle.bits.proofs.Below.{any-none}
-use Rattle.rules.specs.Checking.{farFrom}
-use Rattle.checker.proofs.Plain.{far-more}
-use borrow.Author.Needs.{needs}
-use native.Mathlib.Omega.{arith}
-use Prim.Native.Nat.{ℕ, _≤_, _+_, _-_, _*_}
-use lib.ListN.{length, getD}
+use Rattle.rules.specs.Bounds.{pointsMost, bitsMost}
+use Rattle.laws.specs.Marks.{here}
+use Rattle.source.proofs.Blocks.{part, part-long}
+use Rattle.source.proofs.Field.{present-all}
+use Rattle.checker.specs.Points.{out as isOut}
+use Rattle.checker.proofs.Far.{none-passed, passed-few, passed-more, far-more, place-room}
 use Rattle.checker.proofs.points.any_far.Statement.{statement}
 use Rattle.checker.proofs.points.any_far.Tie as tie
 
 abbrev Inv-loop : tie.InvT-loop
-Inv-loop s numbers from n r e held₀ out₀ i₀ held out i =
-    (i ≤ length numbers) × (length held ≡ 256) × (out ≡ anyBelow (λ k. farFrom (getD numbers k (pos 0)) (toZ w32 r) (run (bitsIn 8 s) (from + k * n) n) e) i)
+Inv-loop s numbers marks from n r e all chosen₀ held₀ out₀ passed₀ i₀ chosen held out passed i =
+    (i ≤ length numbers)
+    × ((length chosen ≡ 256) × ((length held ≡ 256) × ((passed ≡ count (here marks) 0 i) × (out ≡ anyBelow (isOut s numbers marks from n (toZ w32 r) e) i))))
 
 abbrev μ-loop : tie.MeasureT-loop
-μ-loop s numbers from n r e held₀ out₀ i₀ held out i = length numbers - i
+μ-loop s numbers marks from n r e all chosen₀ held₀ out₀ passed₀ i₀ chosen held out passed i = length numbers - i
 
 loop-holds : tie.Need-loop-holds Inv-loop μ-loop
-loop-holds c = (omega arith, refl, any-none _)
+loop-holds c = (omega arith, (refl, (refl, (none-passed (c .before .before .before .args .marks .now), any-none _))))
 
-mul-unpack : tie.Need-mul-unpack Inv-loop μ-loop
-mul-unpack c =
-    let i = c .before .before .loop .i in
-    let n = c .before .before .before .before .args .n in
-    let m : i * n ≤ 1572864 = mul-le-mul {n₂ = 65536} {m₂ = 24} (omega arith) (omega arith) in
-    omega (arith, m)
+abbrev start : tie.After-next-few Inv-loop μ-loop → tie.Start Inv-loop μ-loop
+start n = n .before .before .before .before .before .before
 
-add-unpack : tie.Need-add-unpack Inv-loop μ-loop
-add-unpack c =
-    let i = c .before .before .loop .i in
-    let n = c .before .before .before .before .args .n in
-    let m : i * n ≤ 1572864 = mul-le-mul {n₂ = 65536} {m₂ = 24} (omega arith) (omega arith) in
-    omega (arith, m)
+inside : (n : tie.After-next-few Inv-loop μ-loop) → n .before .before .loop .i + n .next-few .result ≤ length (start n .args .numbers .now)
+inside n = omega (arith, n .next-few .ensures .0)
 
-few-far-requires : tie.Need-few-far-requires Inv-loop μ-loop
-few-far-requires c κs =
-    let f = c .before .before .before .before .next-few .ensures in
-    (omega arith, (omega (arith, f .0), omega (arith, f .1 .0, c .before .before .unpack .kept .1 .1 .1 .0)))
+long : (n : tie.After-next-few Inv-loop μ-loop) → length (part (start n .args .numbers .now) (n .before .before .loop .i) (n .next-few .result) (inside n)) ≡ n .next-few .result
+long n = part-long (start n .args .numbers .now) (n .before .before .loop .i) (n .next-few .result) (inside n)
+
+-- the place of a block's first X
+room : (n : tie.After-next-few Inv-loop μ-loop) → let l = n .before .before .loop in (l .passed ≤ l .i) × (l .passed * start n .args .n ≤ pointsMost * bitsMost)
+room n =
+    let l = n .before .before .loop in
+    let f = start n in
+    place-room (f .args .marks .now) (f .args .n) (l .i) _ (l .inv .1 .1 .1 .0) (omega (arith, f .pre .1 .1)) (f .pre .0 .1 .0)
+
+mul-at : tie.Need-mul-at Inv-loop μ-loop
+mul-at c = record { fits = omega (arith, room c .1) }
+
+add-at : tie.Need-add-at Inv-loop μ-loop
+add-at c = record { fits = omega (arith, room c .1, start c .pre .0 .1 .1) }
+
+block-far-requires : tie.Need-block-far-requires Inv-loop μ-loop
+block-far-requires c κs =
+    let n = c .before .before .before in
+    let l = n .before .before .loop in
+    let f = start n in
+    let few = n .next-few .ensures .1 .0 in (
+      (f .pre .0 .0, f .pre .0 .1 .0),
+      (
+        λ h j k. present-all (f .args .marks .now) (length (f .args .numbers .now)) (sym (n .before .before .before .all-present .ensures) ∙ h) (l .i + j) (omega (arith, k, long n, inside n)),
+        (
+          omega (arith, long n, inside n, f .pre .1 .0),
+          (omega (arith, long n, few, l .inv .1 .0), (omega (arith, long n, few, l .inv .1 .1 .0), omega (arith, long n, few))),
+        ),
+      ),
+    )
+
+fewer : (b : tie.After-block-far Inv-loop μ-loop) → b .block-far .result .passed ≤ b .before .before .before .before .next-few .result
+fewer b =
+    let n = b .before .before .before .before in
+    omega (arith, passed-few (start n .args .marks .now) (n .before .before .loop .i) (b .block-far .result .passed) (length (part (start n .args .numbers .now) (n .before .before .loop .i) (n .next-few .result) (inside n))) (b .block-far .ensures .0), long n)
+
+cast-passed : tie.Need-cast-passed Inv-loop μ-loop
+cast-passed c =
+    let b = c .before .before .before .before in
+    record { fits = omega (arith, fewer b, b .before .before .before .before .next-few .ensures .1 .0) }
+
+add-passed : tie.Need-add-passed Inv-loop μ-loop
+add-passed c =
+    let b = c .before .before .before .before in
+    let n = b .before .before .before .before in
+    record { fits = omega (arith, fewer b, room n .0, inside n, start n .pre .1 .1) }
 
 loop-less : tie.Need-loop-less Inv-loop μ-loop
 loop-less c =
-    let f = c .before .before .before .before .before .next-few .ensures in
-    let t = f .1 .1 (omega arith) in
-    omega (arith, f .0, t)
+    let n = c .before .before .before .before .before .before .before .before in
+    omega (arith, n .next-few .ensures .0, n .next-few .ensures .1 .1 (omega arith))
 
 loop-again : tie.Need-loop-again Inv-loop μ-loop
 loop-again c =
-    let l = c .before .before .before .before .before .before .before .loop in
-    let f = c .before .before .before .before .before .next-few .ensures in
-    let u = c .before .before .before .unpack in
-    let a = c .before .before .before .before .before .before .before .before .before .args in
-    (omega (arith, f .0), u .kept .1 .1 .1 .0 ∙ l .inv .1, far-more (a .s .now) (a .numbers .now) _ (l .held) (a .from) (a .n) _ (a .e) (l .i) _ (omega arith) (omega (arith, f .1 .0)) (u .ensures .1) _ _ (l .inv .2) (c .few-far .ensures))
+    let b = c .before .before .before .before in
+    let n = b .before .before .before .before in
+    let l = n .before .before .loop in
+    let i = l .inv .1 .1 .1 in
+    let a = start n .args in
+    let k = b .block-far .kept .1 .1 .1 .1 .1 .1 .1 in (
+      inside n,
+      (
+        k .0 ∙ l .inv .1 .0,
+        (
+          k .1 .0 ∙ l .inv .1 .1 .0,
+          (
+            passed-more (a .numbers .now) (a .marks .now) (l .i) (n .next-few .result) (inside n) _ _ (i .0) (b .block-far .ensures .0),
+            far-more (a .s .now) (a .numbers .now) (a .marks .now) (a .from) (a .n) _ (a .e) (l .i) (n .next-few .result) (inside n) _ (i .0) _ _ (i .1) (b .block-far .ensures .1),
+          ),
+        ),
+      ),
+    )
 
 returns : tie.Need-returns Inv-loop μ-loop
 returns c =
     let l = c .before .loop in
-    let f = c .before .before .before in
+    let f = c .before .before .before .before .before in
     let a = f .args in
     let e : l .i ≡ length (a .numbers .now) = omega arith in
-    l .inv .2 ∙ ap₂ (λ (x : ℕ) (y : ℤ). anyBelow (λ k. farFrom (getD (a .numbers .now) k (pos 0)) y (run (bitsIn 8 (a .s .now)) (a .from + k * a .n) (a .n)) (a .e)) x) e (toZ-ofZ (f .fits .r))
+    l .inv .1 .1 .1 .1 ∙ ap₂ (λ (x : ℕ) (y : ℤ). anyBelow (isOut (a .s .now) (a .numbers .now) (a .marks .now) (a .from) (a .n) y (a .e)) x) e (toZ-ofZ (f .fits .r))
 
 pub any-far-spec : {M : Type 1} → statement M
 any-far-spec =
@@ -74,17 +125,23 @@ any-far-spec =
     (tie.spec
     Inv-loop
     μ-loop
+    (λ c. search needs)
+    (λ c κs. search needs)
     loop-holds
     (λ c. search needs)
     (λ c κs. search needs)
+    mul-at
+    add-at
     (λ c. search needs)
-    mul-unpack
-    add-unpack
     (λ c. search needs)
     (λ c. search needs)
-    (λ c κs. search needs)
     (λ c. search needs)
-    few-far-requires
+    (λ c. search needs)
+    (λ c. search needs)
+    (λ c. search needs)
+    block-far-requires
+    cast-passed
+    add-passed
     (λ c. search needs)
     loop-less
     loop-again

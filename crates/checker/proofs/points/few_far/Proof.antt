@@ -7,19 +7,19 @@ use mir.Val.{toZ}
 use mir.Facts.{toZ-ofZ}
 use Rattle.bits.specs.Tables.{anyBelow}
 use Rattle.bits.proofs.Below.{any-none}
-use Rattle.checker.proofs.Plain.{few-next}
+use Rattle.checker.proofs.Far.{few-next}
 use Rattle.rules.specs.Checking.{farFrom}
 use borrow.Author.Needs.{needs}
 use native.Mathlib.Omega.{arith}
-use Prim.Native.Nat.{ℕ, _≤_, _+_, _-_}
+use Prim.Native.Nat.{ℕ, _≤_, _-_}
 use Rattle.checker.proofs.points.few_far.Statement.{statement}
 use Rattle.checker.proofs.points.few_far.Tie as tie
 
 abbrev Inv-loop : tie.InvT-loop
-Inv-loop numbers p held c r e out₀ j₀ out j = (j ≤ c) × (out ≡ anyBelow (λ k. farFrom (getD numbers (p + k) (pos 0)) (toZ w32 r) (getD held k 0) e) j)
+Inv-loop numbers held c r e out₀ j₀ out j = (j ≤ c) × (out ≡ anyBelow (λ k. farFrom (getD numbers k (pos 0)) (toZ w32 r) (getD held k 0) e) j)
 
 abbrev μ-loop : tie.MeasureT-loop
-μ-loop numbers p held c r e out₀ j₀ out j = c - j
+μ-loop numbers held c r e out₀ j₀ out j = c - j
 
 loop-holds : tie.Need-loop-holds Inv-loop μ-loop
 loop-holds c = (omega arith, any-none _)
@@ -28,7 +28,7 @@ loop-again : tie.Need-loop-again Inv-loop μ-loop
 loop-again c =
     let l = c .before .before .before .before .loop in
     let a = c .before .before .before .before .before .before .args in
-    (omega arith, few-next (a .numbers .now) (a .held .now) (a .p) _ (a .e) (l .j) (c .before .before .far-arg .given) _ _ (l .inv .1) (c .far .ensures))
+    (omega arith, few-next (a .numbers .now) (a .held .now) _ (a .e) (l .j) (c .before .before .far-arg .given) _ _ (l .inv .1) (c .far .ensures))
 
 returns : tie.Need-returns Inv-loop μ-loop
 returns c =
@@ -36,7 +36,7 @@ returns c =
     let f = c .before .before .before in
     let a = f .args in
     let e : l .j ≡ a .c = omega arith in
-    l .inv .1 ∙ ap₂ (λ (x : ℕ) (y : ℤ). anyBelow (λ k. farFrom (getD (a .numbers .now) (a .p + k) (pos 0)) y (getD (a .held .now) k 0) (a .e)) x) e (toZ-ofZ (f .fits .r))
+    l .inv .1 ∙ ap₂ (λ (x : ℕ) (y : ℤ). anyBelow (λ k. farFrom (getD (a .numbers .now) k (pos 0)) y (getD (a .held .now) k 0) (a .e)) x) e (toZ-ofZ (f .fits .r))
 
 pub few-far-spec : {M : Type 1} → statement M
 few-far-spec =
@@ -45,7 +45,6 @@ few-far-spec =
     Inv-loop
     μ-loop
     loop-holds
-    (λ c. search needs)
     (λ c. search needs)
     (λ c. search needs)
     (λ c. search needs)

@@ -1,7 +1,7 @@
 -- The present values unpacked to the front and spread to their points, then the marks: the loops' promises in turn.
 use borrow.Author.Needs.{needs}
 use Prim.Native.Nat.{_-_}
-use Rattle.field.proofs.Loops.{some-values}
+use Rattle.field.proofs.Loops.{some-values, some-marks}
 use Rattle.field.proofs.lists.some_present.Statement.{statement}
 use Rattle.field.proofs.lists.some_present.Tie as tie
 
@@ -11,7 +11,7 @@ returns c =
     let unpack = spread .before .before .before .before in
     let start = unpack .before .before .before .before .before .before in
     let p = start .pre in
-    (some-values _ _ _ _ _ _ _ _ _ (p .0) (p .1 .0) (p .1 .1 .1 .0) (unpack .unpack .ensures .1) (spread .spread .ensures), c .before .before .marks-of .ensures)
+    (some-values _ _ _ _ _ _ _ _ _ (p .0) (p .1 .0) (p .1 .1 .1) (unpack .unpack .ensures .1) (spread .spread .ensures), some-marks _ _ _ _ (c .before .before .fill .ensures .1))
 
 pub some-present-spec : {M : Type 1} → statement M
 some-present-spec =

@@ -4,6 +4,7 @@ use native.Mathlib.Omega.{arith}
 use Prim.Native.Nat.{_≤_, _-_}
 use lib.ListN.{length}
 use mathlib.Core.Path.{_≡_, refl}
+use Rattle.rules.specs.Chart.{rowsOn}
 use Rattle.rules.specs.Bitmap.{markOf}
 use Rattle.rules.specs.Listing.{joinedTo, rowLine}
 use Rattle.listing.specs.Text.{Wrote}
@@ -13,10 +14,10 @@ use Rattle.listing.proofs.rows.rows.Statement.{statement}
 use Rattle.listing.proofs.rows.rows.Tie as tie
 
 abbrev Inv-loop : tie.InvT-loop
-Inv-loop text₀ at values marks g high next₀ r₀ text next r = (r ≤ g .nj) × ((length text ≡ length text₀) × Wrote text₀ text at next (joinedTo (rowLine (markOf marks) values g) r))
+Inv-loop text₀ at values marks g high next₀ r₀ text next r = (r ≤ rowsOn g) × ((length text ≡ length text₀) × Wrote text₀ text at next (joinedTo (rowLine (markOf marks) values g) r))
 
 abbrev μ-loop : tie.MeasureT-loop
-μ-loop text₀ at values marks g high next₀ r₀ text next r = g .nj - r
+μ-loop text₀ at values marks g high next₀ r₀ text next r = rowsOn g - r
 
 loop-holds : tie.Need-loop-holds Inv-loop μ-loop
 unfolding joinedTo
@@ -28,7 +29,7 @@ row-requires c κs =
     let a = c .before .before .before .before .before .before .before .args in
     let m = rows-most (a .values .now) (a .marks .now) (a .g) (l .r) in
     let h = row-room (a .g .ni) (a .g .nj) (l .r) (omega arith) in
-    (omega arith, (omega arith, (omega arith, omega arith)))
+    (omega arith, (omega arith, omega arith))
 
 loop-again : tie.Need-loop-again Inv-loop μ-loop
 loop-again c =
@@ -42,7 +43,7 @@ loop-again c =
 returns : tie.Need-returns Inv-loop μ-loop
 returns c =
     let a = c .before .before .before .before .before .before .args in
-    let e : c .before .loop .r ≡ a .g .nj = omega arith in
+    let e : c .before .loop .r ≡ rowsOn (a .g) = omega arith in
     let m = rows-most (a .values .now) (a .marks .now) (a .g) (c .before .loop .r) in
     let h = rows-room (a .g .ni) (a .g .nj) (c .before .loop .r) e in
     (rows-done _ _ _ _ (a .values .now) (a .marks .now) (a .g) _ e (c .before .loop .inv .1 .1), omega arith)

@@ -1,7 +1,8 @@
 -- What `signed` makes of the field, handed on in 32 bits.
 use Rattle.octets.proofs.Numbers.{three-lt}
 use Rattle.octets.proofs.Signs.{back}
-use Rattle.rules.specs.Numbers.{signed}
+use mathlib.Core.Path.{ap, _∙_}
+use Rattle.rules.specs.Numbers.{plain, signed}
 use Prim.Native.Nat.{_<_}
 use borrow.Author.Needs.{needs}
 use Rattle.octets.proofs.reading.signed_three.Statement.{statement}
@@ -12,7 +13,7 @@ signed-requires c κs = let h : c .three .result < 16777216 = three-lt _ _ _ (c 
 
 returns : tie.Need-returns
 unfolding signed
-returns c = simp (back 8388608 _ _ _ (c .before .three .ensures) (c .signed .ensures) (c .signed .ok))
+returns c = c .plain .ensures ∙ ap plain (back 8388608 _ _ _ (c .before .before .three .ensures) (c .before .signed .ensures) (c .before .signed .ok))
 
 pub signed-three-spec : {M : Type 1} → statement M
-signed-three-spec = tie.close (tie.spec (λ c κs. search needs) signed-requires returns)
+signed-three-spec = tie.close (tie.spec (λ c κs. search needs) signed-requires (λ c κs. search needs) returns)

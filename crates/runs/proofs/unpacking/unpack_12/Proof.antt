@@ -1,15 +1,13 @@
 -- The invariant: the first h pairs are read, each from its own three octets.
-use mathlib.Core.Path.{_≡_, refl, ap₂}
+use mathlib.Core.Path.{_≡_, refl}
 use mathlib.Core.List.{_++_}
 use native.Mathlib.Omega.{arith}
 use borrow.Author.Needs.{needs}
-use Prim.Native.Nat.{ℕ, _≤_, _+_, _-_, _*_, _/_, _%_}
+use Prim.Native.Nat.{ℕ, _≤_, _+_, _-_, _*_, _/_}
 use lib.ListN.{length, drop, length-set}
 use Rattle.bits.specs.Bits.{bitsIn, runs}
 use Rattle.bits.specs.Tables.{tab}
-use Rattle.bits.proofs.Trip.{Wide}
-use Rattle.bits.proofs.Unpack.{stored, octet-turn, read-same}
-use Rattle.runs.proofs.Twelve.{first-12, second-12}
+use Rattle.bits.proofs.Unpack.{stored, read-same}
 use Rattle.runs.proofs.unpacking.unpack_12.Statement.{statement}
 use Rattle.runs.proofs.unpacking.unpack_12.Tie as tie
 
@@ -28,18 +26,15 @@ slice-write-out-2 c = simp length-set (omega arith)
 
 loop-again : tie.Need-loop-again Inv-loop μ-loop
 loop-again c =
-    let l = c .before .before .before .before .before .before .before .loop in
-    let g = c .before .before .before .before .before .before .before .before .before in
-    let a = g .before .args in
-    let w : Wide 8 (a .s .now) = λ i. g .shared-slice-known .given i .fits in
+    let l = c .before .before .before .loop in
+    let a = c .before .before .before .before .before .before .args in
     let r : l .h * 2 + 1 + 1 ≡ (l .h + 1) * 2 = omega arith in (
       omega arith,
       simp length-set (l .inv .1),
       read-same (a .s .now) (a .out .now) _ (a .k * 8) 12 (l .h * 2 + 1 + 1) ((l .h + 1) * 2) r
-          (octet-turn (a .s .now) (a .out .now) _ (a .k) 12 (l .h * 2 + 1) _ _ (omega arith)
-          (octet-turn (a .s .now) (a .out .now) (l .out) (a .k) 12 (l .h * 2) _ _ (omega arith) (l .inv .2)
-          (ap₂ (λ (x y : ℕ). x * 16 + y / 16) (c .before .before .before .before .low .ensures .0) (c .before .before .low2 .ensures .0)) (first-12 (a .s .now) (a .k) (l .h) w))
-          (ap₂ (λ (x y : ℕ). x % 16 * 256 + y) (c .before .before .low2 .ensures .0) (c .low3 .ensures .0)) (second-12 (a .s .now) (a .k) (l .h) w)),
+          (stored (a .s .now) (a .out .now) _ (a .k * 8) 12 (l .h * 2 + 1) _ _ (omega arith)
+          (stored (a .s .now) (a .out .now) (l .out) (a .k * 8) 12 (l .h * 2) _ _ (omega arith) (l .inv .2) (c .before .first-12 .ensures) (omega arith))
+          (c .second-12 .ensures) (omega arith)),
     )
 
 returns : tie.Need-returns Inv-loop μ-loop
@@ -64,25 +59,11 @@ unpack-12-spec =
     loop-holds
     (λ c. search needs)
     (λ c. search needs)
-    (λ c. search needs)
     (λ c κs. search needs)
     (λ c. search needs)
     (λ c. search needs)
     (λ c. search needs)
-    (λ c. search needs)
     (λ c κs. search needs)
-    (λ c. search needs)
-    (λ c. search needs)
-    (λ c. search needs)
-    (λ c. search needs)
-    (λ c κs. search needs)
-    (λ c. search needs)
-    (λ c. search needs)
-    (λ c. search needs)
-    (λ c. search needs)
-    (λ c. search needs)
-    (λ c. search needs)
-    (λ c. search needs)
     (λ c. search needs)
     (λ c. search needs)
     (λ c. search needs)

@@ -35,7 +35,7 @@ returns c =
     let b = d1 .before .before .before .before .before in
     let a = b .args in (
       omega (arith, d4 .put-bitmap .ensures .0, d3 .put-grid .ensures .0),
-      front-placed (a .out .now) (a .pds .now) (a .form) (markOf (a .marks .now)) (length (a .marks .now)) (a .len) _ (b .pre .1 .1 .0) (d3 .put-grid .ensures .0)
+      front-placed (a .out .now) (a .pds .now) (a .form) (markOf (a .marks .now)) (a .n) (a .len) _ (b .pre .1 .1 .0) (d3 .put-grid .ensures .0)
           _ _ _ _ (d1 .put-indicator .ensures) (d2 .copy .ensures) (d3 .put-grid .ensures .1) (d4 .put-bitmap .ensures .1),
     )
 

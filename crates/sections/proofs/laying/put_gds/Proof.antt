@@ -8,7 +8,7 @@ use Rattle.sections.proofs.laying.put_gds.Tie as tie
 
 put-corners-requires : tie.Need-put-corners-requires
 put-corners-requires c κs =
-    let b = c .before .before .before .before .before .before in
+    let b = c .before .before .before .before .before .before .before .before in
     let s = grid-small (b .args .grid) (b .pre .1) in
     (omega arith, ((s .la1, s .lo1), (s .la2, s .lo2)))
 
@@ -17,7 +17,7 @@ returns c =
     let d3 = c .before .before in
     let d2 = d3 .before .before .before .before in
     let d1 = d2 .before .before .before .before in
-    let b = d1 .before .before .before in
+    let b = d1 .before .before .before .before .before in
     gds-placed (b .args .out .now) (b .args .g) (b .args .grid) (b .pre .0) _ _ _ (d1 .put-shape .ensures) (d2 .put-corners .ensures) (d3 .put-steps .ensures)
 
 pub put-gds-spec : {M : Type 1} → statement M

@@ -2,6 +2,7 @@
 use mathlib.Core.Path.{refl}
 use native.Mathlib.Omega.{arith}
 use Prim.Native.Nat.{_+_, _-_, _*_}
+use Rattle.rules.specs.Bounds.{bdsHead}
 use Rattle.sections.proofs.Lengths.{Held, bds-held}
 use Rattle.sections.proofs.Sections.{head-placed}
 use borrow.Author.Needs.{needs}
@@ -50,7 +51,7 @@ returns c =
     let b = r .before .before in
     let a = b .args in
     let h = held b in
-    head-placed (a .out .now) (a .packing) (a .scale) (a .d) (a .m) (r .bds-room .result) (a .packing .flags * 16 + (8 * (r .bds-room .result - 11) - a .m * a .packing .bits))
+    head-placed (a .out .now) (a .packing) (a .scale) (a .d) (a .m) (r .bds-room .result) (a .packing .flags * 16 + (8 * (r .bds-room .result - bdsHead) - a .m * a .packing .bits))
     (r .bds-room .ensures) (omega arith) refl _ _ (d1 .put-bds .kept .0) (omega arith) (d1 .put-bds .ensures) (d2 .put-octet .ensures .1)
 
 pub put-head-spec : {M : Type 1} → statement M

@@ -1,96 +1,95 @@
--- Each point put, a present one as its value and an absent one as no bits: what the points passed leave (laws reached-none and reached-more).
+-- A block of points at a time: of the values so far, whole blocks are packed and the rest are held (laws block-more and last-all).
 use borrow.Author.Needs.{needs}
 use native.Mathlib.Omega.{arith}
-use Prim.Native.Nat.{ℕ, _≤_, _<_, _-_, _*_}
-use mathlib.Core.Path.{refl}
-use native.Mathlib.Nat.{mod-lt}
-use lib.Dec.{lit<}
-use lib.ListN.{length, getD}
-use Rattle.puts.proofs.Over.{in-fits}
+use Prim.Native.Nat.{ℕ, _+_, _-_, _≤_, _<_}
+use mathlib.Core.Path.{_≡_, subst}
+use lib.ListN.{length, take, drop}
 use Rattle.rules.specs.Bitmap.{markOf, valueOf}
-use Rattle.sections.proofs.Placing.{number-put}
-use Rattle.sections.proofs.Filling.{Reached, step-few, step-value, reached-none, reached-filled, reached-more, reached-room, reached-few}
+use Rattle.rules.specs.Points.{gathered}
+use Rattle.blocks.specs.Passed.{Passed}
+use Rattle.blocks.proofs.Fitting.{Next, next}
+use Rattle.blocks.proofs.Passing.{passed-none, block-more, last-all, part-size, part-value, present-room}
 use Rattle.writer.proofs.gathering.put_points.Statement.{statement}
 use Rattle.writer.proofs.gathering.put_points.Tie as tie
 
 abbrev Inv-loop : tie.InvT-loop
-Inv-loop values marks bits out₀ all₀ q₀ i₀ out all q i = (i ≤ length marks) × Reached (markOf marks) (valueOf values) bits out₀ i out all q
+Inv-loop values marks bits held₀ out₀ progress₀ i₀ held out progress i =
+    (i ≤ length values) × (progress .held < 256) × Passed bits (gathered (markOf marks) (valueOf values) i) out₀ progress held out
 
 abbrev μ-loop : tie.MeasureT-loop
-μ-loop values marks bits out₀ all₀ q₀ i₀ out all q i = length marks - i
+μ-loop values marks bits held₀ out₀ progress₀ i₀ held out progress i = length values - i
 
--- a point's step is at most 24 bits
-few : (b : tie.Start Inv-loop μ-loop) (i : ℕ) → b .args .bits * getD (b .args .marks .now) i 0 ≤ 24
-few b i = step-few (b .args .bits) (getD (b .args .marks .now) i 0) (b .pre .0) (b .pre .1 .0 .mark i)
+abbrev start : tie.After-block-of Inv-loop μ-loop → tie.Start Inv-loop μ-loop
+start b = b .before .before .before .before .before .before .before
+
+-- the points of the block
+points : (b : tie.After-block-of Inv-loop μ-loop) → Next (length (start b .args .values .now) - b .before .before .loop .i) (b .block-of .result)
+points b = next _ _ (b .block-of .ensures)
 
 loop-holds : tie.Need-loop-holds Inv-loop μ-loop
 loop-holds c =
-    let b = c .before .before .before in
-    let a = b .args in
-    let p = b .pre .1 .0 in
-    (omega arith, reached-none (markOf (a .marks .now)) (valueOf (a .values .now)) (p .mark) (a .bits) (p .value) (omega arith) (a .out .now))
+    let s = c .before .before .before .before in
+    let a = s .args in
+    (omega arith, omega arith, passed-none (a .bits) (a .marks .now) (valueOf (a .values .now)) (a .out .now) (a .held .now) (s .pre .1 .1 .0))
 
-cast-step : tie.Need-cast-step Inv-loop μ-loop
-cast-step c = omega (arith, c .before .before .before .before .before .before .pre .1 .0 .mark (c .before .before .loop .i))
+add-put-block : tie.Need-add-put-block Inv-loop μ-loop
+add-put-block c = omega (arith, points c .there, start c .pre .1 .0 .same)
 
-mul-step : tie.Need-mul-step Inv-loop μ-loop
-mul-step c = omega (arith, few (c .before .before .before .before .before .before) (c .before .before .loop .i))
+mul-put-block : tie.Need-mul-put-block Inv-loop μ-loop
+mul-put-block c = omega (arith, points c .there, start c .pre .1 .0 .same)
 
-shl-all : tie.Need-shl-all Inv-loop μ-loop
-shl-all c = omega (arith, few (c .before .before .before .before .before .before) (c .before .before .loop .i))
+sub-put-block : tie.Need-sub-put-block Inv-loop μ-loop
+sub-put-block c = omega (arith, points c .there, start c .pre .1 .0 .same)
 
-cast-all : tie.Need-cast-all Inv-loop μ-loop
-cast-all c = omega (arith, c .shared-slice-known4 .given (c .before .before .before .loop .i))
+part-put-block-start : tie.Need-part-put-block-start Inv-loop μ-loop
+part-put-block-start c = omega (arith, points c .there, start c .pre .1 .0 .same)
 
-add-all : tie.Need-add-all Inv-loop μ-loop
-add-all c =
-    let l = c .before .before .before .loop in
-    let b = c .before .before .before .before .before .before .before in
-    let a = b .args in
-    let p = b .pre .1 .0 in
-    let m = getD (a .marks .now) (l .i) 0 in
-    let v = getD (a .values .now) (l .i) 0 in
-    record { fits = in-fits (l .all) (a .bits * m) v (few b (l .i)) (step-value (a .bits) m v (p .mark (l .i)) (p .away (l .i)) (p .value (l .i))) }
+part-put-block-end : tie.Need-part-put-block-end Inv-loop μ-loop
+part-put-block-end c = omega (arith, points c .there, start c .pre .1 .0 .same)
 
-sub-word : tie.Need-sub-word Inv-loop μ-loop
-sub-word c = omega (arith, few (c .before .before .before .before .before .before .before) (c .before .before .before .loop .i))
+add-i : tie.Need-add-i Inv-loop μ-loop
+add-i c =
+    let b = c .before .before .before .before .before .before .before .before in
+    let m = points b in
+    omega (arith, m .there, m .some (omega arith))
 
-sub-word-2 : tie.Need-sub-word-2 Inv-loop μ-loop
-sub-word-2 c = omega (arith, few (c .before .before .before .before .before .before .before) (c .before .before .before .loop .i))
-
-shl-word : tie.Need-shl-word Inv-loop μ-loop
-shl-word c = omega (arith, few (c .before .before .before .before .before .before .before) (c .before .before .before .loop .i))
-
-add-q : tie.Need-add-q Inv-loop μ-loop
-add-q c =
-    let l = c .before .before .before .before .before .before .before .loop in
-    let b = c .before .before .before .before .before .before .before .before .before .before .before in
-    let a = b .args in
-    let p = b .pre .1 .0 in
-    let s = few b (l .i) in
-    let k = reached-few (markOf (a .marks .now)) (valueOf (a .values .now)) (p .mark) (a .bits) (p .value) (omega arith) (a .out .now) (l .i) (l .out) (l .all) (l .q) (l .inv .1) (length (a .marks .now)) (omega arith) (p .few) in
-    omega arith
+loop-less : tie.Need-loop-less Inv-loop μ-loop
+loop-less c =
+    let b = c .before .before .before .before .before .before .before .before in
+    let m = points b in
+    omega (arith, m .there, m .some (omega arith))
 
 loop-again : tie.Need-loop-again Inv-loop μ-loop
 loop-again c =
-    let l = c .before .before .before .before .before .before .before .loop in
-    let b = c .before .before .before .before .before .before .before .before .before .before .before in
-    let a = b .args in
-    let p = b .pre .1 .0 in
-    let f = markOf (a .marks .now) in
+    let q = c .before .before .before .before in
+    let b = q .before .before .before .before in
+    let l = b .before .before .loop in
+    let s = start b in
+    let a = s .args in
+    let p = s .pre .1 .0 in
+    let m = points b in
+    let N = length (a .values .now) in
     let v = valueOf (a .values .now) in
-    let k = reached-room f v (p .mark) (a .bits) (p .value) (omega arith) (a .out .now) (l .i) (l .out) (l .all) (l .q) (l .inv .1) (length (a .marks .now)) (length (a .out .now)) (omega arith) (b .pre .1 .1) in
-    let s = l .inv .1 .size in (
-      omega arith,
-      reached-more f v (p .mark) (a .bits) (p .value) (omega arith) (a .out .now) (l .i) (l .out) (l .all) (l .q) (l .inv .1) (p .away (l .i)) _ refl _ (c .before .before .put-four .kept .0)
-          (number-put _ _ _ 4 _ (omega arith) (mod-lt _ (lit< tt)) (c .before .before .put-four .ensures .1)),
-    )
+    let xs = take (l .i + b .block-of .result - l .i) (drop (l .i) (a .values .now)) in
+    let k : length xs ≡ b .block-of .result = part-size (a .values .now) (l .i) (b .block-of .result) (omega (arith, m .there, p .same)) in
+    let t = block-more (a .bits) (a .marks .now) v N (omega arith) (p .value) (a .out .now) (present-room (a .bits) (a .marks .now) v N _ (p .mark) (s .pre .1 .1 .1))
+    (l .i) (b .block-of .result) xs k (m .most) (omega (arith, m .there)) (omega arith) (λ j h _. part-value (a .values .now) (l .i) (l .i + b .block-of .result - l .i) j (omega arith))
+    (l .progress) (l .held) (l .out) (l .inv .1) (l .inv .2) _ (q .put-block .ensures .0) _ (q .put-block .ensures .1 .0) _ (q .put-block .ensures .1 .1) in
+    (omega (arith, m .there), t .0, t .1)
 
 returns : tie.Need-returns Inv-loop μ-loop
 returns c =
-    let l = c .before .loop in
-    let a = c .before .before .before .before .before .args in
-    reached-filled (markOf (a .marks .now)) (valueOf (a .values .now)) (a .bits) (a .out .now) (l .i) (l .out) (l .all) (l .q) (length (a .marks .now)) (omega arith) (l .inv .1)
+    let q = c .before .before in
+    let h = q .before .before .before in
+    let l = h .before .loop in
+    let s = h .before .before .before .before .before .before in
+    let a = s .args in
+    let p = s .pre .1 .0 in
+    let N = length (a .values .now) in
+    let v = valueOf (a .values .now) in
+    let e : l .i ≡ N = omega (arith, l .inv .0) in
+    last-all (a .bits) (a .marks .now) v N (omega arith) (p .value) (a .out .now) (present-room (a .bits) (a .marks .now) v N _ (p .mark) (s .pre .1 .1 .1))
+    (l .progress) (l .held) (l .out) (l .inv .1) (subst (λ (x : ℕ). Passed (a .bits) (gathered (markOf (a .marks .now)) v x) (a .out .now) (l .progress) (l .held) (l .out)) e (l .inv .2)) _ (q .put-last .ensures .1)
 
 pub put-points-spec : {M : Type 1} → statement M
 put-points-spec =
@@ -100,21 +99,17 @@ put-points-spec =
     μ-loop
     loop-holds
     (λ c. search needs)
-    cast-step
-    mul-step
-    shl-all
-    (λ c. search needs)
-    (λ c. search needs)
-    cast-all
-    add-all
-    sub-word
-    sub-word-2
-    shl-word
-    (λ c. search needs)
     (λ c κs. search needs)
-    add-q
-    (λ c. search needs)
-    (λ c. search needs)
+    add-put-block
+    mul-put-block
+    sub-put-block
+    part-put-block-start
+    part-put-block-end
+    (λ c κs. search needs)
+    add-i
+    loop-less
     loop-again
+    (λ c κs. search needs)
+    (λ c. search needs)
     (λ c. search needs)
     returns)

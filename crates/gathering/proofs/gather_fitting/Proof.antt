@@ -1,0 +1,63 @@
+-- A turn stores one value at the place reached and moves the place by its mark: the list held is that of one point more (law gather-turn).
+use borrow.Author.Needs.{needs}
+use native.Mathlib.Omega.{arith}
+use Prim.Native.Nat.{ℕ, _≤_, _+_, _-_}
+use mathlib.Core.Path.{_≡_, refl, ap, _∙_}
+use lib.ListN.{length, length-set}
+use Rattle.bits.specs.Bits.{count}
+use Rattle.rules.specs.Bitmap.{valueOf}
+use Rattle.gathering.specs.Gather.{hereFrom, gatherInto}
+use Rattle.gathering.proofs.Here.{here-is}
+use Rattle.gathering.proofs.Gathered.{gather-none, gather-turn}
+use Rattle.gathering.proofs.gather_fitting.Statement.{statement}
+use Rattle.gathering.proofs.gather_fitting.Tie as tie
+
+abbrev Inv-loop : tie.InvT-loop
+Inv-loop values marks at held₀ d₀ j₀ held d j =
+    (j ≤ length values) × (length held ≡ length held₀) × (d ≤ j) × (d ≡ count (hereFrom marks at) 0 j) × (held ≡ gatherInto (hereFrom marks at) (valueOf values) j held₀)
+
+abbrev μ-loop : tie.MeasureT-loop
+μ-loop values marks at held₀ d₀ j₀ held d j = length values - j
+
+loop-holds : tie.Need-loop-holds Inv-loop μ-loop
+loop-holds c =
+    let a = c .before .before .before .args in
+    let z = gather-none (hereFrom (a .marks .now) (a .at)) (valueOf (a .values .now)) (a .held .now) in
+    (omega arith, refl, omega arith, z .0, z .1)
+
+loop-again : tie.Need-loop-again Inv-loop μ-loop
+loop-again c =
+    let l = c .before .before .before .before .loop in
+    let a = c .before .before .before .before .before .before .before .before .args in
+    let t = gather-turn (hereFrom (a .marks .now) (a .at)) (valueOf (a .values .now)) (l .j) (l .d) _ _ (l .held) (a .held .now) (l .inv .3) (l .inv .4) refl (here-is (a .marks .now) (a .at + l .j) _ (c .one .ensures .0)) in
+    (omega arith, simp length-set (l .inv .1), omega (arith, c .one .ensures .1), t .0, t .1)
+
+returns : tie.Need-returns Inv-loop μ-loop
+returns c =
+    let l = c .before .loop in
+    let a = c .before .before .before .before .before .args in
+    let e : l .j ≡ length (a .values .now) = omega arith in (
+      l .inv .3 ∙ ap (count (hereFrom (a .marks .now) (a .at)) 0) e,
+      l .inv .4 ∙ ap (λ (x : ℕ). gatherInto (hereFrom (a .marks .now) (a .at)) (valueOf (a .values .now)) x (a .held .now)) e,
+    )
+
+pub gather-fitting-spec : {M : Type 1} → statement M
+gather-fitting-spec =
+    tie.close
+    (tie.spec
+    Inv-loop
+    μ-loop
+    loop-holds
+    (λ c. search needs)
+    (λ c. search needs)
+    (λ c. search needs)
+    (λ c. search needs)
+    (λ c. search needs)
+    (λ c. search needs)
+    (λ c κs. search needs)
+    (λ c. search needs)
+    (λ c. search needs)
+    (λ c. search needs)
+    loop-again
+    (λ c. search needs)
+    returns)

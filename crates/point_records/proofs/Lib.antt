@@ -1,0 +1,2 @@
+-- What the records' proofs share.
+pub mod Made

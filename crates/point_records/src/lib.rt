@@ -1,0 +1,41 @@
+// The records that cross to C of a bitmap in force and of a point's data number, by value and in its layout, and how each is made of an answer.
+ghost use mathlib.Core.Path.{_≡_};
+ghost use Rattle.points.specs.Told.{told};
+ghost use Rattle.records.specs.Records.{partBy};
+ghost use Rattle.point_records.specs.Records.{dataRecord};
+use parts::Force;
+use points::Numbered;
+use records::PartRecord;
+
+#[repr(C)]
+pub struct DataRecord {
+    pub kind: u32,
+    pub number: u32,
+}
+
+pub fn force_record(f: Force) -> PartRecord
+    ensures { λ r. ⌜ r ≡ partBy (f .stored) (f .part) ⌝ }
+{
+    let mut stored: u32 = 0;
+    if f.stored {
+        stored = 1;
+    }
+    PartRecord {
+        stored,
+        start: f.part.start,
+        len: f.part.len,
+    }
+}
+
+pub fn data_record(n: Numbered) -> DataRecord
+    ensures { λ r. ⌜ r ≡ dataRecord (told n) ⌝ }
+{
+    match n {
+        Numbered::Present(k) => DataRecord {
+            kind: 1,
+            number: k.number(),
+        },
+        Numbered::Absent => DataRecord { kind: 2, number: 0 },
+        Numbered::Outside => DataRecord { kind: 0, number: 0 },
+    }
+}

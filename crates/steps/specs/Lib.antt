@@ -1,0 +1,2 @@
+-- X of many numbers.
+pub mod Steps
