@@ -219,7 +219,10 @@ def must_fail(doc, body):
         folder = os.path.join(crates, crate, "must-fail")
         if os.path.isdir(folder):
             for name in os.listdir(folder):
-                edits.setdefault(name[: -len(".edit")], set()).add(crate)
+                # a file's own name, or those of the wrong answers that it holds
+                held = re.findall(r"^answer: (\w+)$", text("crates", crate, "must-fail", name), re.M)
+                for answer in held or [name[: -len(".edit")]]:
+                    edits.setdefault(answer, set()).add(crate)
     if doc == "STANDINS.md":
         for crate, name in re.findall(r"`([a-z_]+)/([a-z_]+)`", body):
             if os.path.isdir(os.path.join(crates, crate)) and name not in ("src", "specs", "proofs"):
