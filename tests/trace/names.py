@@ -111,14 +111,11 @@ def theorems(cell, at):
 
 
 def vectors():
-    """The vectors of docs/VECTORS.md by table and name, with their replies."""
-    out, table = {}, None
-    for line in text("docs", "VECTORS.md").splitlines():
-        if line.startswith("## "):
-            table = {"Reading": "read", "Writing": "write", "Checking": "check", "Packing": "pack"}.get(line[3:].strip())
-        m = re.match(r"\| `([\w-]+)` \| (\d+) \|", line)
-        if table and m:
-            out[table, m[1]] = m[2]
+    """The vectors of the tables in tests/vectors by table and name, with their replies."""
+    out = {}
+    for table, page in (("read", "READING.md"), ("write", "WRITING.md"), ("check", "CHECKING.md"), ("pack", "PACKING.md")):
+        for name, reply in re.findall(r"(?m)^\| `([\w-]+)` \| (\d+) \|", text("tests", "vectors", page)):
+            out[table, name] = reply
     return out
 
 

@@ -1,14 +1,15 @@
 //! `vectors DIR` makes what the program crates `read_vectors` and `write_vectors`
 //! are run on: in DIR/CRATE, data with the vectors' files, args with the files'
-//! names, and stdout with the lines that must be written. And DIR/VECTORS.md, the
-//! tables of them for docs/.
+//! names, and stdout with the lines that must be written. And in DIR/tables the
+//! tables of them, a page each, for tests/vectors.
 
 use second_reading::vectors::{check, pack, read, write};
 use std::fmt::Write;
 use std::path::Path;
 use std::process::ExitCode;
 
-const ABOUT: &str = include_str!("vectors.md");
+const ABOUT: &str = "Made by `tests/vectors/run --write`. How, and what the vectors are: \
+    `docs/VECTORS.md`.";
 
 /// A line of one of the tables.
 struct Line {
@@ -24,9 +25,10 @@ struct Made {
     written: String,
 }
 
-/// One of the four tables as a page shows it.
-fn section(text: &mut String, title: &str, lines: &[Line]) -> std::fmt::Result {
-    write!(text, "\n## {title}\n\n| reply | vectors |\n|---|---|\n")?;
+/// The page of one of the four tables.
+fn page(title: &str, lines: &[Line]) -> Result<String, std::fmt::Error> {
+    let mut text = format!("# {title}\n\n{ABOUT}\n");
+    write!(text, "\n| reply | vectors |\n|---|---|\n")?;
     for reply in 0..=19 {
         let count = lines.iter().filter(|line| line.reply == reply).count();
         if count > 0 {
@@ -41,7 +43,7 @@ fn section(text: &mut String, title: &str, lines: &[Line]) -> std::fmt::Result {
     for line in lines {
         writeln!(text, "| `{}` | {} | {} |", line.name, line.reply, line.rule)?;
     }
-    Ok(())
+    Ok(text)
 }
 
 /// The vectors of a table, each held to what is written by hand; the field that
@@ -103,16 +105,18 @@ fn run(out: &str) -> std::io::Result<()> {
     written.extend(packed);
     place(&format!("{out}/read_vectors"), &read, false)?;
     place(&format!("{out}/write_vectors"), &written, true)?;
-    let mut text = ABOUT.to_string();
-    for (title, lines) in [
+    let tables = format!("{out}/tables");
+    std::fs::create_dir_all(&tables)?;
+    for (name, lines) in [
         ("Reading", reading),
         ("Writing", writing),
         ("Checking", checking),
         ("Packing", packing),
     ] {
-        section(&mut text, title, &lines).map_err(std::io::Error::other)?;
+        let text = page(name, &lines).map_err(std::io::Error::other)?;
+        std::fs::write(format!("{tables}/{}.md", name.to_uppercase()), text)?;
     }
-    std::fs::write(format!("{out}/VECTORS.md"), text)
+    Ok(())
 }
 
 fn main() -> ExitCode {
