@@ -1,4 +1,5 @@
--- What `put` leaves: the octets that a number of n bits touches are the number of their kept bits, its bits and zeros.
+-- A number of n bits put at a bit place (`putAt`): the octets that it touches are one number, made of the bits kept
+-- before it, its own and zeros. Then the turns of the loop that packs, and that a number of whole octets is read back.
 use mathlib.Core.Path.{_≡_, refl, sym, ap, ap₂, _∙_, subst}
 use mathlib.Core.List.{List, [], _∷_, _++_, append-assoc, append-nil}
 use Prim.Native.Nat.{ℕ, zero, suc, _+_, _-_, _*_, _/_, _%_, _^_, _≤_, _<_}

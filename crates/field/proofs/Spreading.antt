@@ -23,7 +23,7 @@ pub count-next : (f : ℕ → ℕ) (i : ℕ) → count f 0 (i + 1) ≡ count f 0
 unfolding count
 count-next f i = ap (count f 0) (add-one i) ∙ ap (λ (x : ℕ). count f 0 i + f x) (zero-add i)
 
--- a present point has a number below the count of ones
+-- before the first turn no point is done: the list is as it was
 pub down-none : (f : ℕ → ℕ) (n : ℕ) (v : List ℕ) → Down f n v v n
 down-none f n v = record { len = refl; under = λ j h. refl; done = λ j h k. absurd (not-suc-le-zero (zero-of j h k)); past = λ j h. refl }
   where
