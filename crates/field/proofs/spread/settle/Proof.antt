@@ -1,6 +1,6 @@
+-- The value put, and how many are left.
 use mathlib.Core.Path.{refl, ap}
 use lib.ListN.{set}
--- The value put, and how many are left.
 use Prim.Native.Nat.{_-_}
 use borrow.Author.Needs.{needs}
 use Rattle.field.proofs.spread.settle.Statement.{statement}
