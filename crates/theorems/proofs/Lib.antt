@@ -10,6 +10,7 @@ pub mod BitmapSection
 pub mod DataSection
 -- reading, writing, and both round trips
 pub mod Place
+pub mod North
 pub mod Offered
 pub mod Reoffered
 pub mod Points
@@ -17,6 +18,7 @@ pub mod Told
 pub mod ReadBack
 pub mod Returned
 pub mod WriteBack
+pub mod Calls
 pub mod Exactly
 pub mod Needed
 pub mod Ignored

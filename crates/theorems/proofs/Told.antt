@@ -50,7 +50,7 @@ module _ (s : List ℕ) (lent : Lent) (values marks : List ℕ) (t : Taken s len
   took : T (accepted r)
   took = taken-by r read-zero
 
-  header : readOf s lent values marks ≡ foundIn s lent
+  pub header : readOf s lent values marks ≡ foundIn s lent
   unfolding readOf answerBy
   header = ap (λ (b : Bool). cond b (foundIn s lent) (refusedBy r)) (is-true (accepted r) took)
 

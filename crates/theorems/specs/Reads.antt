@@ -2,16 +2,17 @@
 -- scales, and the row and column of each grid point".
 use Prim.Native.Nat.{ℕ, _+_, _-_, _*_, _^_, _<_, _≤_}
 use mathlib.Core.Path.{_≡_}
-use mathlib.Core.Logic.{_↔_}
-use mathlib.Core.Bool.{false, cond}
+use mathlib.Core.Logic.{_↔_, _⊎_}
+use mathlib.Core.Bool.{true, false, cond}
 use mathlib.Core.List.{List, [], _∷_, map}
 use lib.Dec.{T, eqb}
 use lib.IntN.{pos, negsuc}
+use lib.Signed.{ltZ}
 use lib.ListN.{length, getD, take, drop}
 use lib.Ieee.{binary64, ofBits}
 use lib.Ieee.Exact.{HasValue}
 use Rattle.bits.specs.Bits.{bitsIn, run, count}
-use Rattle.rules.specs.declared.{Header.Header, Bitmap.the-variants.Without, Shape.Shape, GridPoint.GridPoint, Spot.Spot, Charted.the-variants.On, Pointed.the-variants.At}
+use Rattle.rules.specs.declared.{Header.Header, Bitmap.the-variants.Without, Shape.Shape, Grid.Grid, GridPoint.GridPoint, Spot.Spot, Charted.the-variants.On, Pointed.the-variants.At}
 use Rattle.rules.specs.Bounds.{bdsHead}
 use Rattle.rules.specs.Numbers.{joined, decimalAt}
 use Rattle.rules.specs.Table.{refusal, accepted}
@@ -22,7 +23,7 @@ use Rattle.rules.specs.Chart.{west, north, byColumn, spotOf, pointsOn, rowsOn, 
 use Rattle.rules.specs.Bitmap.{Lent, markOf, marksLong, valueOf}
 use Rattle.rules.specs.Points.{numbered, absent}
 use Rattle.rules.specs.Values.{sOf, bOf, sizeOf, unit}
-use Rattle.rules.specs.Reading.{ownRefusal, bitmapIn, pointsIn, presentIn, presentCount, packingIn, dataIn, headerOf, readRefusal, readOf, valuesAfter, marksAfter, sectionOf, numberingOf}
+use Rattle.rules.specs.Reading.{ownRefusal, gridOf, bitmapIn, pointsIn, presentIn, presentCount, packingIn, dataIn, headerOf, readRefusal, readOf, valuesAfter, marksAfter, sectionOf, numberingOf}
 use Rattle.rules.specs.Writing.{Parts, gridFor, pointsFor}
 use Rattle.rules.specs.RoundTrip.{partsIn}
 use Rattle.rules.specs.Display.{shownReference, shownStep}
@@ -111,6 +112,25 @@ abbrev pub ChartDrawn : Type 0
 ChartDrawn =
     (ni nj scan j i : ℕ) → j < nj → i < ni
     → spotOf ni nj scan (cond (byColumn scan) (i * nj + j) (j * ni + i)) ≡ record { row = cond (north scan) (nj - 1 - j) j; column = cond (west scan) (ni - 1 - i) i }
+
+-- "The chart's row 0 is north", by the latitudes: La1 is the first scanned row's and La2 the last one's. Point i of scanned row j, and the chart's row in which all of them are drawn
+abbrev pub scanned : Shape → ℕ → ℕ → ℕ
+scanned g j i = cond (byColumn (g .scan)) (i * g .nj + j) (j * g .ni + i)
+
+abbrev pub DrawnIn : Shape → ℕ → ℕ → Type 0
+DrawnIn g j r = (i : ℕ) → i < g .ni → spotOn g (scanned g j i) .row ≡ r
+
+-- of a grid of more than one row: where La1 is above La2 the first scanned row is the chart's row 0 and the last one its last, where La2 is above La1 they change places, and
+-- there is no third case
+abbrev pub NorthOnTop : Grid → Type 0
+NorthOnTop g =
+    let last = g .shape .nj - 1 in
+    ((ltZ (g .geometry .la2 .value) (g .geometry .la1 .value) ≡ true) × DrawnIn (g .shape) 0 0 × DrawnIn (g .shape) last last)
+    ⊎ ((ltZ (g .geometry .la1 .value) (g .geometry .la2 .value) ≡ true) × DrawnIn (g .shape) 0 last × DrawnIn (g .shape) last 0)
+
+-- of every message that is taken, by its GDS or by the catalogue
+abbrev pub TopIsNorth : Type 0
+TopIsNorth = (s : List ℕ) (lent : Lent) → Taken s lent → let g = theGrid (gridOf s) in 1 < g .shape .nj → NorthOnTop g
 
 -- "the row and column of each grid point": place and point determine each other on every grid, whatever its flags
 abbrev pub PlacePoint : Type 0

@@ -2,18 +2,18 @@
 use Prim.Native.Nat.{ℕ, _+_, _-_, _*_, _^_, _<_, _≤_}
 use mathlib.Core.Path.{_≡_}
 use mathlib.Core.Logic.{_↔_}
-use mathlib.Core.Bool.{Bool}
+use mathlib.Core.Bool.{Bool, cond}
 use mathlib.Core.List.{List, [], _∷_}
 use lib.Dec.{T, eqb}
 use lib.ListN.{length, getD, take}
-use Rattle.rules.specs.declared.{Shape.Shape, Geometry.Geometry, Found.Found, Found.the-variants.Nothing, Found.the-variants.Given, Bitmap.Bitmap, Bitmap.the-variants.Without, Bitmap.the-variants.Carried, Bitmap.the-variants.Stored, Written.Written}
+use Rattle.rules.specs.declared.{Header.Header, Shape.Shape, Geometry.Geometry, Found.Found, Found.the-variants.Nothing, Found.the-variants.Given, Bitmap.Bitmap, Bitmap.the-variants.Without, Bitmap.the-variants.Carried, Bitmap.the-variants.Stored, Written.Written}
 use Rattle.bits.specs.Bits.{bitsIn}
 use Rattle.rules.specs.Bounds.{bmsHead, bdsHead}
 use Rattle.rules.specs.Numbers.{octet}
-use Rattle.rules.specs.Table.{accepted}
-use Rattle.rules.specs.Places.{pdsStart, hasGrid, placesOf}
+use Rattle.rules.specs.Table.{refusal, accepted}
+use Rattle.rules.specs.Places.{octetsOf, pdsStart, hasGrid, placesOf}
 use Rattle.rules.specs.Bitmap.{Lent, marksLong}
-use Rattle.rules.specs.Reading.{pointsIn, bitmapIn, presentCount, packingIn}
+use Rattle.rules.specs.Reading.{pointsIn, bitmapIn, presentCount, packingIn, readOf, valuesAfter, marksAfter}
 use Rattle.rules.specs.Writing.{Parts, pointsFor, message, writeRefusal, writeOf, outputAfter}
 use Rattle.rules.specs.RoundTrip.{partsIn, stains, canonical}
 use Rattle.laws.specs.Taken.{Taken}
@@ -46,6 +46,27 @@ NumberFits (Stored number) = number < 2 ^ 16
 abbrev pub handed : Written → List ℕ → List ℕ
 handed answer out = take (answer .len) out
 
+-- what a caller has of a message that was read, to be written again: the header and the two lists that reading handed out, and the PDS, cut out of the message at the place that
+-- the header says; a grid where the header has a grid section
+unfoldable pub partsFrom : List ℕ → Lent → Header → List ℕ → List ℕ → Parts
+partsFrom s lent h values marks = record {
+  pds = octetsOf s (h .places .pds);
+  form = record { grid = cond (eqb (h .places .gds .len) 0) Nothing (Given (h .grid)); bitmap = h .bitmap; packing = h .packing };
+  scale = h .scale;
+  lent = lent;
+  values = take (h .points) values;
+  marks = take (marksLong (h .points)) marks;
+}
+
+abbrev pub partsRead : List ℕ → Lent → List ℕ → List ℕ → Parts
+partsRead s lent values marks = partsFrom s lent (readOf s lent values marks) (valuesAfter s lent values marks) (marksAfter s lent values marks)
+
+-- "Reading gives exactly what GRIB Edition 1 defines": with room for its points, these are the parts by which the round trips speak of a message
+abbrev pub ReadMakes : Type 0
+ReadMakes =
+    (s : List ℕ) (lent : Lent) (values marks : List ℕ) → Taken s lent → pointsIn s ≤ length values → marksLong (pointsIn s) ≤ length marks
+    → partsRead s lent values marks ≡ partsIn s lent
+
 -- s reads back to the parts w: it is taken, its parts are w, and reading it into lists with room hands out w
 pub record Returned (w : Parts) (s : List ℕ) : Type 0 where
   pub taken : Taken s (w .lent)
@@ -59,11 +80,27 @@ ReadAfterWrite =
     → T (accepted (writeRefusal w out))
     → Returned w (handed (writeOf w out) (outputAfter w out))
 
+-- and so over two calls: what writing left in the lent output, read with the same bitmap lent, hands out the parts that were given
+abbrev pub WriteThenRead : Type 0
+WriteThenRead =
+    (w : Parts) (out values marks : List ℕ) → GridFits (w .form .grid) → NumberFits (w .form .bitmap) → w .scale .r < 2 ^ 32
+    → T (accepted (writeRefusal w out)) → pointsFor w ≤ length values → marksLong (pointsFor w) ≤ length marks
+    → let s = handed (writeOf w out) (outputAfter w out) in
+    (readOf s (w .lent) values marks .refusal ≡ refusal 0) × (partsRead s (w .lent) values marks ≡ w)
+
 -- "Reading and then writing gives the same octets when padding and reserved octets are zero and no signed field .. is minus zero"
 abbrev pub WriteAfterRead : Type 0
 WriteAfterRead =
     (s out : List ℕ) (lent : Lent) → Below 256 s → Taken s lent → T (canonical s lent) → length s ≤ length out
     → let w = partsIn s lent in T (accepted (writeRefusal w out)) × (handed (writeOf w out) (outputAfter w out) ≡ s)
+
+-- and so over two calls: what reading handed out, written, is the message
+abbrev pub ReadThenWrite : Type 0
+ReadThenWrite =
+    (s out : List ℕ) (lent : Lent) (values marks : List ℕ) → Below 256 s → Taken s lent → T (canonical s lent)
+    → pointsIn s ≤ length values → marksLong (pointsIn s) ≤ length marks → length s ≤ length out
+    → let w = partsRead s lent values marks in
+    (readOf s lent values marks .refusal ≡ refusal 0) × T (accepted (writeRefusal w out)) × (handed (writeOf w out) (outputAfter w out) ≡ s)
 
 -- and only then: the octets that the writer has for the parts read are those that were read
 abbrev pub WriteAfterReadExactly : Type 0
