@@ -7,7 +7,7 @@ use native.Mathlib.Nat.{le-refl}
 use borrow.Author.Tests.{eqb-false}
 use lib.Dec.{eqb, lit<}
 use lib.ListN.{set, getD}
-use Rattle.rules.specs.declared.{Refusal.Refusal, Form.Form}
+use Rattle.rules.specs.declared.{Refusal.Refusal, Places.Places, Form.Form}
 use Rattle.rules.specs.Table.{refusal}
 use Rattle.rules.proofs.Computes.{computes, specimen, nothing}
 use Rattle.rules.proofs.Specimen.{form, parts, source}
@@ -15,7 +15,7 @@ use Rattle.theorems.specs.Returns.{GridFits}
 use Rattle.theorems.proofs.Checked.{check-exactly}
 use Rattle.theorems.proofs.Packs.{pack-exactly}
 use Rattle.standins.specs.Codec.{ReadsAll, ValuesAtPoints, CountsPresent, ReadsBack, ChecksExactly, PackedPasses, PacksExactly, RepliesByTable}
-use Rattle.standins.specs.Standins.{refusesAll, fixedField, firstRepeated, countInvented, writesNothing, alwaysYes, alwaysNo, packsNothing, roundsDown, Rejected}
+use Rattle.standins.specs.Standins.{refusesAll, fixedField, firstRepeated, countInvented, misplacesSections, writesNothing, alwaysYes, alwaysNo, packsNothing, roundsDown, Rejected}
 
 -- lists with room for the specimen's points
 abbrev room : List ℕ
@@ -44,6 +44,11 @@ first-repeated h = eqb-false 0 7 refl (h specimen nothing room room tt 3 (lit< t
 count-invented : CountsPresent countInvented → ⊥
 unfolding computes
 count-invented h = eqb-false 4 3 refl (h specimen nothing room room tt)
+
+-- the specimen's GDS starts at 36, where its PDS, from 8 on, ends
+misplaces-sections : ReadsAll misplacesSections → ⊥
+unfolding computes
+misplaces-sections h = eqb-false 8 36 refl (ap (λ (p : Places). p .gds .start) (h specimen nothing tt room room (le-refl 4) (le-refl 4) .places))
 
 grid-fits : GridFits (form .grid)
 grid-fits = (record { ni = lit< tt; nj = lit< tt; scan = lit< tt }, record { flags = lit< tt; di = lit< tt; dj = lit< tt })
@@ -88,6 +93,7 @@ rejected = record {
   fixed-field = fixed-field;
   first-repeated = first-repeated;
   count-invented = count-invented;
+  misplaces-sections = misplaces-sections;
   writes-nothing = writes-nothing;
   always-yes = always-yes;
   always-no = always-no;

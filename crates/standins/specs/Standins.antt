@@ -77,6 +77,24 @@ inventedHeader s lent values marks =
       scale = h .scale;
     }
 
+-- every section where the PDS lies
+abbrev pub misplacedHeader : List ℕ → Lent → List ℕ → List ℕ → Header
+misplacedHeader s lent values marks =
+    let h = readOf s lent values marks in
+    let p = h .places .pds in
+    record {
+      refusal = h .refusal;
+      places = record { pds = p; gds = p; bms = p; bds = p };
+      time = h .time;
+      d = h .d;
+      grid = h .grid;
+      points = h .points;
+      bitmap = h .bitmap;
+      present = h .present;
+      packing = h .packing;
+      scale = h .scale;
+    }
+
 -- what stands for a writer: nothing is written, and our length answered
 abbrev pub unwritten : Parts → List ℕ → List ℕ
 unwritten w out = out
@@ -155,6 +173,9 @@ firstRepeated = reading readOf repeatedValues marksAfter
 abbrev pub countInvented : Codec
 countInvented = reading inventedHeader valuesAfter marksAfter
 
+abbrev pub misplacesSections : Codec
+misplacesSections = reading misplacedHeader valuesAfter marksAfter
+
 abbrev pub writesNothing : Codec
 writesNothing = outputting unwritten
 
@@ -176,6 +197,7 @@ pub record Rejected : Type 0 where
   pub fixed-field : ReadsAll fixedField → ⊥
   pub first-repeated : ValuesAtPoints firstRepeated → ⊥
   pub count-invented : CountsPresent countInvented → ⊥
+  pub misplaces-sections : ReadsAll misplacesSections → ⊥
   pub writes-nothing : ReadsBack writesNothing → ⊥
   pub always-yes : ChecksExactly alwaysYes → ⊥
   pub always-no : ChecksExactly alwaysNo → ⊥

@@ -2,7 +2,7 @@
 use Prim.Native.Nat.{ℕ, _+_, _-_, _≤_, _<_}
 use mathlib.Core.Bool.{Bool, true, false, cond}
 use mathlib.Core.Path.{_≡_, refl, sym, subst, _∙_, ap}
-use mathlib.Core.List.{List, [], _∷_, _++_, append-nil}
+use mathlib.Core.List.{List, [], _∷_, _++_, append-nil, map}
 use native.Mathlib.Omega.{arith}
 use borrow.Author.Tests.{eqb-true}
 use lib.Dec.{eqb}
@@ -12,11 +12,11 @@ use Rattle.bits.proofs.Cut.{cut}
 use Rattle.rules.specs.declared.{Part.Part}
 use Rattle.rules.specs.Numbers.{joined}
 use Rattle.rules.specs.Table.{accepted}
-use Rattle.rules.specs.Places.{octetsOf, noPart, pdsStart, hasGrid, hasBitmap, placesOf, sectionsOf, sectionAt}
+use Rattle.rules.specs.Places.{octetsOf, noPart, after, endStart, pdsStart, hasGrid, hasBitmap, placesOf, sectionsOf, sectionAt}
 use Rattle.rules.specs.Bitmap.{Lent}
 use Rattle.rules.specs.Reading.{ownRefusal, sectionOf}
 use Rattle.laws.specs.Taken.{Taken}
-use Rattle.theorems.specs.Reads.{SectionsTile, HandedBack, SectionsHanded, RefusedHasNone}
+use Rattle.theorems.specs.Reads.{SectionsTile, Adjoining, withOctets, Adjoined, SectionsAdjoin, HandedBack, SectionsHanded, RefusedHasNone}
 use Rattle.laws.proofs.Rows.{is-true}
 use Rattle.laws.proofs.Sections.{sections}
 
@@ -46,6 +46,30 @@ none-or s p = go (eqb (p .len) 0) refl
     go : (b : Bool) → eqb (p .len) 0 ≡ b → octetsOf s (cond b noPart p) ≡ octetsOf s p
     go true e = ap (λ (k : ℕ). take k (drop (p .start) s)) (sym (eqb-true (p .len) 0 e))
     go false e = refl
+
+-- a part without octets can be left out of those that lie one after another
+left-out : (from : ℕ) (p : Part) (parts : List Part) (to : ℕ) → p .start ≡ from → Adjoining (after p) parts to
+    → (b : Bool) → eqb (p .len) 0 ≡ b → Adjoining from (cond b parts (p ∷ parts)) to
+left-out from p parts to e h true z =
+    let at : after p ≡ from = omega (arith, e, eqb-true (p .len) 0 z) in
+    subst (λ (x : ℕ). Adjoining x parts to) at h
+left-out from p parts to e h false z = (e, h)
+
+few : (from : ℕ) (parts : List Part) (to : ℕ) → Adjoining from parts to → Adjoining from (withOctets parts) to
+few from [] to h = h
+few from (p ∷ parts) to h = left-out from p (withOctets parts) to (h .0) (few (after p) parts to (h .1)) (eqb (p .len) 0) refl
+
+-- and so can the empty part in the place of one
+abbrev emptied : Part → Part
+emptied p = cond (eqb (p .len) 0) noPart p
+
+same-left : (p : Part) (x y : List Part) → x ≡ y → (b : Bool) → eqb (p .len) 0 ≡ b → cond (eqb (cond b noPart p .len) 0) x (cond b noPart p ∷ x) ≡ cond b y (p ∷ y)
+same-left p x y e true z = e
+same-left p x y e false z = ap (λ (b : Bool). cond b x (p ∷ x)) z ∙ ap (λ (l : List Part). p ∷ l) e
+
+same-octets : (parts : List Part) → withOctets (map emptied parts) ≡ withOctets parts
+same-octets [] = refl
+same-octets (p ∷ parts) = same-left p _ _ (same-octets parts) (eqb (p .len) 0) refl
 
 module _ (s : List ℕ) (lent : Lent) (t : Taken s lent) where
   abbrev lies : ℕ → Part
@@ -79,6 +103,36 @@ module _ (s : List ℕ) (lent : Lent) (t : Taken s lent) where
     bms = λ e. handed-none 3 (absent-len (hasBitmap s pdsStart) _ e);
     other = λ k l. handed-none k (ap (λ (p : Part). p .len) (past k l));
   }
+
+  one-by-one : Adjoining 0 (sectionsOf s) (length s)
+  unfolding sectionsOf placesOf sectionAt
+  one-by-one =
+      let at = sections s lent t in
+      (refl, (at .at-pds, (at .at-gds, (at .at-bms, (at .at-bds, (omega (arith, at .end), omega (arith, at .end)))))))
+
+  handed-parts : withOctets (map (sectionOf s lent) (0 ∷ 1 ∷ 2 ∷ 3 ∷ 4 ∷ 5 ∷ [])) ≡ withOctets (sectionsOf s)
+  unfolding sectionsOf
+  handed-parts = (λ i. withOctets (handed 0 i ∷ handed 1 i ∷ handed 2 i ∷ handed 3 i ∷ handed 4 i ∷ handed 5 i ∷ [])) ∙ same-octets (sectionsOf s)
+
+  adjoined : Adjoined s lent
+  unfolding placesOf sectionAt
+  adjoined =
+      let at = sections s lent t in
+      record {
+        pds = at .at-pds;
+        gds = at .at-gds;
+        bms = at .at-bms;
+        bds = at .at-bds;
+        end = omega (arith, at .end);
+        last = omega (arith, at .end);
+        without-gds = absent-len (hasGrid s pdsStart) _;
+        without-bms = absent-len (hasBitmap s pdsStart) _;
+        lie = one-by-one;
+        handed = subst (λ (parts : List Part). Adjoining 0 parts (length s)) (sym handed-parts) (few 0 (sectionsOf s) (length s) one-by-one);
+      }
+
+pub sections-adjoin : SectionsAdjoin
+sections-adjoin s lent t = adjoined s lent t
 
 pub sections-handed : SectionsHanded
 sections-handed s lent t = handed-back s lent t

@@ -72,6 +72,7 @@ module _ (s : List ℕ) (lent : Lent) (values marks : List ℕ) (t : Taken s len
   unfolding foundIn foundBy parsedOf partsIn packingIn scaleIn
   tells = record {
     refusal = ap (λ (h : Header). h .refusal) header;
+    places = ap (λ (h : Header). h .places) header;
     pds = ap (λ (h : Header). octetsOf s (h .places .pds)) header;
     time = ap (λ (h : Header). h .time) header ∙ moment-same s pdsStart (w s lent t .pds) (pds-octet s lent t);
     d = ap (λ (h : Header). h .d) header ∙ decimal-same s (w s lent t .pds) lent t refl;

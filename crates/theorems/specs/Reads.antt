@@ -12,11 +12,11 @@ use lib.ListN.{length, getD, take, drop}
 use lib.Ieee.{binary64, ofBits}
 use lib.Ieee.Exact.{HasValue}
 use Rattle.bits.specs.Bits.{bitsIn, run, count}
-use Rattle.rules.specs.declared.{Header.Header, Bitmap.the-variants.Without, Shape.Shape, Grid.Grid, GridPoint.GridPoint, Spot.Spot, Charted.the-variants.On, Pointed.the-variants.At}
+use Rattle.rules.specs.declared.{Header.Header, Part.Part, Bitmap.the-variants.Without, Shape.Shape, Grid.Grid, GridPoint.GridPoint, Spot.Spot, Charted.the-variants.On, Pointed.the-variants.At}
 use Rattle.rules.specs.Bounds.{bdsHead}
 use Rattle.rules.specs.Numbers.{joined, decimalAt}
 use Rattle.rules.specs.Table.{refusal, accepted}
-use Rattle.rules.specs.Places.{octetsOf, noPart, pdsStart, hasGrid, hasBitmap, placesOf, sectionsOf}
+use Rattle.rules.specs.Places.{octetsOf, noPart, after, pdsStart, endStart, hasGrid, hasBitmap, placesOf, sectionsOf}
 use Rattle.rules.specs.Time.{momentAt}
 use Rattle.rules.specs.Grid.{theGrid}
 use Rattle.rules.specs.Chart.{west, north, byColumn, spotOf, pointsOn, rowsOn, rowLong, spotOn, pointOn, charted, pointed}
@@ -46,6 +46,33 @@ SectionsHanded = (s : List ℕ) (lent : Lent) → Taken s lent → HandedBack s 
 -- "or a message that 1 to 12 refuse"
 abbrev pub RefusedHasNone : Type 0
 RefusedHasNone = (s : List ℕ) (lent : Lent) (k : ℕ) → accepted (ownRefusal s lent) ≡ false → sectionOf s lent k ≡ noPart
+
+-- one after another: each part starts where the one before it ends, the first at one place, and the last ends at the other
+abbrev pub Adjoining : ℕ → List Part → ℕ → Type 0
+Adjoining from [] to = from ≡ to
+Adjoining from (p ∷ parts) to = (p .start ≡ from) × Adjoining (after p) parts to
+
+-- those of some parts that have octets
+abbrev pub withOctets : List Part → List Part
+withOctets [] = []
+withOctets (p ∷ parts) = cond (eqb (p .len) 0) (withOctets parts) (p ∷ withOctets parts)
+
+-- how the sections tile a message: the PDS starts at 8, each section where the one before it ends, and the end section, where the BDS ends, 4 octets before the message's end.
+-- An absent section has no octets, and those that have some, as "asking for section 0 to 5" hands them back, lie one after another from the message's first octet to its last
+pub record Adjoined (s : List ℕ) (lent : Lent) : Type 0 where
+  pub pds : placesOf s .pds .start ≡ 8
+  pub gds : placesOf s .gds .start ≡ after (placesOf s .pds)
+  pub bms : placesOf s .bms .start ≡ after (placesOf s .gds)
+  pub bds : placesOf s .bds .start ≡ after (placesOf s .bms)
+  pub end : endStart s ≡ after (placesOf s .bds)
+  pub last : endStart s + 4 ≡ length s
+  pub without-gds : hasGrid s pdsStart ≡ false → placesOf s .gds .len ≡ 0
+  pub without-bms : hasBitmap s pdsStart ≡ false → placesOf s .bms .len ≡ 0
+  pub lie : Adjoining 0 (sectionsOf s) (length s)
+  pub handed : Adjoining 0 (withOctets (map (sectionOf s lent) (0 ∷ 1 ∷ 2 ∷ 3 ∷ 4 ∷ 5 ∷ []))) (length s)
+
+abbrev pub SectionsAdjoin : Type 0
+SectionsAdjoin = (s : List ℕ) (lent : Lent) → Taken s lent → Adjoined s lent
 
 -- of a point, where reading left these lists: "A present grid point's data number is the count of ones before it in the bitmap", its value stands among the data by that number;
 -- "An absent point has none", and "0 and 0 at absent points"
@@ -80,9 +107,11 @@ abbrev pub ReadKeeps : Type 0
 ReadKeeps = (s : List ℕ) (lent : Lent) (values marks : List ℕ) → T (accepted (readRefusal s lent values marks))
     → (drop (pointsIn s) (valuesAfter s lent values marks) ≡ drop (pointsIn s) values) × (drop (marksLong (pointsIn s)) (marksAfter s lent values marks) ≡ drop (marksLong (pointsIn s)) marks)
 
--- "packed integers, present points, scales": what is handed out of a message, a header and two lists as reading left them, is the parts w, field by field
+-- "sections .., packed integers, present points, scales": what is handed out of a message, a header and two lists as reading left them, is the parts w, field by field, and the
+-- places of the message's sections
 pub record Told (s : List ℕ) (h : Header) (values marks : List ℕ) (w : Parts) : Type 0 where
   pub refusal : h .refusal ≡ refusal 0
+  pub places : h .places ≡ placesOf s
   pub pds : octetsOf s (h .places .pds) ≡ w .pds
   pub time : h .time ≡ momentAt (w .pds) 0
   pub d : h .d ≡ decimalAt (w .pds) 0
