@@ -14,7 +14,7 @@ use Rattle.rules.specs.Bounds.{bdsHead}
 use Rattle.rules.specs.Table.{refusal, anyOf, firstOr, first, accepted}
 use Rattle.rules.specs.Bitmap.{Lent, markOf, presentBy, bitmapOctets, inForce}
 use Rattle.rules.specs.Values.{wholeOf}
-use Rattle.rules.specs.Reading.{messageTable, earlierRows, layoutRows, gridRows, dataRows, ownRefusal, headerOf}
+use Rattle.rules.specs.Reading.{messageTable, ownRefusal, headerOf}
 use Rattle.rules.specs.Checking.{Source, sourceFaults, decimalDiffers, scaleFaults, checkTable, checkOf}
 use Rattle.laws.specs.Sources.{WellFormed}
 use Rattle.laws.proofs.Sources.{well-formed}
@@ -28,7 +28,7 @@ use Rattle.checker.proofs.Rows.{whole-is, differ-is, out-is}
 -- the message's own rows first
 module _ (s : List ℕ) (lent : Lent) (f : Source) where
   own-first : checkOf s lent f ≡ cond (accepted (ownRefusal s lent)) (firstOr (sourceRows s lent f) (refusal 0)) (ownRefusal s lent)
-  unfolding checkOf checkTable sourceRows ownRefusal messageTable earlierRows layoutRows gridRows dataRows first firstOr
+  unfolding checkOf checkTable sourceRows ownRefusal messageTable first firstOr
   own-first =
       or-append (messageTable s lent) (sourceRows s lent f) (refusal 0)
       ∙ staged (messageTable s lent) (firstOr (sourceRows s lent f) (refusal 0)) (tt, (tt, (tt, (tt, (tt, (tt, (tt, (tt, (tt, (tt, (tt, (tt, tt))))))))))))

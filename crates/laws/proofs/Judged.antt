@@ -1,6 +1,6 @@
--- The reader's rows 1 to 12 as twelve named facts, there and back: nothing else looks at its table by position.
+-- The reader's rows 1 to 12 as twelve named facts, there and back, and in the groups that code judges, by the definitions: nothing else looks at its table by position.
 use mathlib.Core.Bool.{true, false, _&&_, _||_}
-use mathlib.Core.Path.{_≡_}
+use mathlib.Core.Path.{_≡_, refl}
 use mathlib.Core.List.{List, [], _∷_}
 use Prim.Native.Nat.{ℕ}
 use lib.Dec.{T, ltb}
@@ -12,7 +12,7 @@ use Rattle.rules.specs.Grid.{gridMissing, theGrid, gdsFaults, gridFaults}
 use Rattle.rules.specs.Bitmap.{Lent, bitmapFaults}
 use Rattle.rules.specs.Values.{packingFaults, lengthBad}
 use Rattle.rules.specs.Reading.{gridOf, pointsIn, bitmapIn, presentCount, packingIn, layoutRows, gridRows, dataRows, parsedOf, earlierRows, messageTable, ownRefusal, readTable, readRefusal}
-use Rattle.laws.specs.Tables.{Clear}
+use Rattle.laws.specs.Tables.{Clear, RowsInGroups}
 use Rattle.laws.specs.Taken.{Taken}
 use Rattle.laws.proofs.Rows.{zero-of, clear, clear-parts, accepts, taken-by}
 
@@ -30,13 +30,17 @@ pub record Judged (s : List ℕ) (lent : Lent) : Type 0 where
   pub packing : anyOf (packingFaults (packingIn s)) ≡ false
   pub length : lengthBad s (placesOf s .bds) (presentCount s lent) (packingIn s) ≡ false
 
+pub rows-in-groups : RowsInGroups
+unfolding messageTable earlierRows layoutRows gridRows dataRows parsedOf
+rows-in-groups s lent = refl
+
 pub rows : (s : List ℕ) (lent : Lent) → Taken s lent → Clear (messageTable s lent)
-unfolding ownRefusal messageTable earlierRows layoutRows gridRows dataRows parsedOf
+unfolding ownRefusal messageTable
 rows s lent t = clear (messageTable s lent) (tt, (tt, (tt, (tt, (tt, (tt, (tt, (tt, (tt, (tt, (tt, (tt, tt)))))))))))) t
 
 -- what of a table that goes on after row 12 is accepted is taken
 pub read-taken : (s : List ℕ) (lent : Lent) (values marks : List ℕ) → T (accepted (readRefusal s lent values marks)) → Taken s lent
-unfolding ownRefusal readRefusal readTable messageTable earlierRows layoutRows gridRows dataRows parsedOf
+unfolding ownRefusal readRefusal readTable messageTable
 read-taken s lent values marks t =
     let h = clear (readTable s lent values marks) (tt, (tt, (tt, (tt, (tt, (tt, (tt, (tt, (tt, (tt, (tt, (tt, (tt, tt))))))))))))) t in
     let last = row 14 (ltb (length values) (pointsIn s) || ltb (length marks) (pointsIn s)) in
@@ -44,15 +48,15 @@ read-taken s lent values marks t =
 
 -- where they accept, the reply is refusal 0
 pub own-zero : (s : List ℕ) (lent : Lent) → accepted (ownRefusal s lent) ≡ true → ownRefusal s lent ≡ refusal 0
-unfolding ownRefusal messageTable earlierRows layoutRows gridRows dataRows parsedOf
+unfolding ownRefusal messageTable
 own-zero s lent = zero-of (messageTable s lent) (tt, (tt, (tt, (tt, (tt, (tt, (tt, (tt, (tt, (tt, (tt, (tt, tt))))))))))))
 
 pub read-zero : (s : List ℕ) (lent : Lent) (values marks : List ℕ) → accepted (readRefusal s lent values marks) ≡ true → readRefusal s lent values marks ≡ refusal 0
-unfolding readRefusal readTable messageTable earlierRows layoutRows gridRows dataRows parsedOf
+unfolding readRefusal readTable messageTable
 read-zero s lent values marks = zero-of (readTable s lent values marks) (tt, (tt, (tt, (tt, (tt, (tt, (tt, (tt, (tt, (tt, (tt, (tt, (tt, tt)))))))))))))
 
 pub judged : (s : List ℕ) (lent : Lent) → Taken s lent → Judged s lent
-unfolding messageTable earlierRows layoutRows gridRows dataRows parsedOf
+unfolding messageTable
 judged s lent t =
     let a = rows s lent t in
     let b = a .1 .1 .1 .1 .1 .1 in
@@ -72,6 +76,6 @@ judged s lent t =
     }
 
 pub unjudged : (s : List ℕ) (lent : Lent) → Judged s lent → ownRefusal s lent ≡ refusal 0
-unfolding ownRefusal messageTable earlierRows layoutRows gridRows dataRows parsedOf
+unfolding ownRefusal messageTable
 unjudged s lent h = accepts (messageTable s lent)
     (h .size, (h .mark, (h .edition, (h .total, (h .places, (h .time, (h .found, (h .gds, (h .grid, (h .bitmap, (h .packing, (h .length, tt))))))))))))

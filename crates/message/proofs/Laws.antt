@@ -11,8 +11,9 @@ use Rattle.rules.specs.Table.{row, refusal, firstOr, first, accepted}
 use Rattle.rules.specs.Places.{placesOf}
 use Rattle.rules.specs.Bitmap.{Lent, inForce, bitmapOctets, presentBy}
 use Rattle.rules.specs.Values.{lengthBad}
+use Rattle.laws.proofs.Judged.{rows-in-groups}
 use Rattle.reply.proofs.Stages.{or-append, staged}
-use Rattle.rules.specs.Reading.{parsedOf, foundBy, inForceIn, presentIn, presentCount, packingIn, layoutRows, gridRows, dataRows, earlierRows, messageTable, refusedBy, foundIn, ownRefusal, answerBy, headerOf}
+use Rattle.rules.specs.Reading.{parsedOf, foundBy, inForceIn, presentIn, presentCount, packingIn, layoutRows, gridRows, dataRows, earlierRows, refusedBy, foundIn, ownRefusal, answerBy, headerOf}
 
 -- the stages of rows 1 to 11
 pub stages : (s : List ℕ) (lent : Lent) (q : Parsed) (none x y r : Refusal) → none ≡ refusal 0
@@ -30,9 +31,10 @@ module _ (s : List ℕ) (lent : Lent) where
   late = lengthBad s (placesOf s .bds) (presentCount s lent) (packingIn s)
 
   own : (t : Bool) (r : Refusal) → t ≡ late → r ≡ first (earlierRows s lent (parsedOf s)) → ownRefusal s lent ≡ cond (accepted r) (cond t (refusal 12) (refusal 0)) r
-  unfolding ownRefusal messageTable earlierRows layoutRows gridRows dataRows first firstOr
+  unfolding ownRefusal earlierRows layoutRows gridRows dataRows first firstOr
   own t r e f =
-      or-append (earlierRows s lent (parsedOf s)) (row 12 late ∷ []) (refusal 0)
+      ap first (rows-in-groups s lent)
+      ∙ or-append (earlierRows s lent (parsedOf s)) (row 12 late ∷ []) (refusal 0)
       ∙ staged (earlierRows s lent (parsedOf s)) (cond late (refusal 12) (refusal 0)) (tt, (tt, (tt, (tt, (tt, (tt, (tt, (tt, (tt, (tt, (tt, tt)))))))))))
       ∙ ap₂ (λ (u : Bool) (q : Refusal). cond (accepted q) (cond u (refusal 12) (refusal 0)) q) (sym e) (sym f)
 

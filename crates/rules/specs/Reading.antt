@@ -58,7 +58,37 @@ valuesIn s lent = scattered (presentIn s lent) (dataIn s lent) (pointsIn s)
 unfoldable pub marksIn : List ℕ → Lent → List ℕ
 marksIn s lent = marksOf (presentIn s lent) (pointsIn s)
 
--- rows 1 to 11, in three groups; 12 is joined to them in `messageTable`. Each test can be judged once those above it have passed: then none reads past its section
+-- the reader's table, "1 to 12": each row with the words of document 01
+unfoldable pub messageTable : List ℕ → Lent → List Row
+messageTable s lent =
+    -- "slice below 8 or above 262,144 octets"
+    row 1 (sizeBad s)
+    -- "first four octets not 'GRIB'"
+    ∷ row 2 (markBad s)
+    -- "edition not 1"
+    ∷ row 3 (editionBad s)
+    -- "total length is not the slice's, or last four octets not '7777'"
+    ∷ row 4 (anyOf (totalFaults s))
+    -- "a section length is odd or under its least .., or the sections don't reach it exactly"
+    ∷ row 5 (anyOf (placesFaults (endStart s) (hasGrid s pdsStart) (hasBitmap s pdsStart) (placesOf s)))
+    -- "time out of its ranges"
+    ∷ row 6 (anyOf (timeFaults s pdsStart))
+    -- "no GDS, octet 7 not in the catalogue"
+    ∷ row 7 (gridMissing (gridOf s))
+    -- "GDS length or octets 4 to 6 not as above"
+    ∷ row 8 (hasGrid s pdsStart && anyOf (gdsFaults s (placesOf s .gds)))
+    -- "Ni, Nj, n, a latitude, a longitude or the scan test outside the rules"
+    ∷ row 9 (anyOf (gridFaults (theGrid (gridOf s))))
+    -- "bitmap rule broken, or no such stored bitmap"
+    ∷ row 10 (anyOf (bitmapFaults s lent (placesOf s .bms) (bitmapIn s) (pointsIn s)))
+    -- "BDS flag bit 1, 2 or 4 set, N over 24"
+    ∷ row 11 (anyOf (packingFaults (packingIn s)))
+    -- "data length rule broken"
+    ∷ row 12 (lengthBad s (placesOf s .bds) (presentCount s lent) (packingIn s))
+    ∷ []
+
+-- its rows 1 to 11 in three groups, over what was read before, as code judges them (laws: RowsInGroups). Each test can be judged once those above it have passed: then none
+-- reads past its section
 unfoldable pub layoutRows : List ℕ → Places → List Row
 layoutRows s p =
     row 1 (sizeBad s)
@@ -97,9 +127,6 @@ parsedOf s = record {
 unfoldable pub earlierRows : List ℕ → Lent → Parsed → List Row
 earlierRows s lent q =
     layoutRows s (q .places) ++ (gridRows s (q .places) (q .found) ++ dataRows s lent (q .places .bms) (q .bitmap) (q .points) (q .packing))
-
-unfoldable pub messageTable : List ℕ → Lent → List Row
-messageTable s lent = earlierRows s lent (parsedOf s) ++ (row 12 (lengthBad s (placesOf s .bds) (presentCount s lent) (packingIn s)) ∷ [])
 
 -- a refused answer: "its number with all counts and fields zero"
 unfoldable pub refusedBy : Refusal → Header

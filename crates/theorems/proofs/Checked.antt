@@ -16,7 +16,7 @@ use Rattle.rules.specs.Bounds.{sourceMost, stepMost}
 use Rattle.rules.specs.Table.{Row, row, refusal, anyOf}
 use Rattle.rules.specs.Bitmap.{Lent, valueOf}
 use Rattle.rules.specs.Values.{unit, sizeOf, whole, wholeOf}
-use Rattle.rules.specs.Reading.{layoutRows, gridRows, dataRows, parsedOf, earlierRows, messageTable, ownRefusal, pointsIn, presentIn, valuesIn, scaleIn, decimalIn}
+use Rattle.rules.specs.Reading.{messageTable, ownRefusal, pointsIn, presentIn, valuesIn, scaleIn, decimalIn}
 use Rattle.rules.specs.Checking.{Source, numberOf, presentOf, sourceFaults, decimalDiffers, sourceDiffers, scaleFaults, farFrom, pointOut, checkTable, checkOf}
 use Rattle.laws.specs.Tables.{Clear}
 use Rattle.laws.specs.Sources.{AtPresent, Agrees, InRange}
@@ -75,7 +75,7 @@ module _ (s : List ℕ) (lent : Lent) (f : Source) where
   four = row 18 (anyOf (sourceFaults f)) ∷ row 15 (anyOf (sourceDiffers s lent f)) ∷ row 16 (anyOf (scaleFaults (scaleIn s))) ∷ row 17 (pointOut s lent f) ∷ []
 
   through : checkOf s lent f ≡ refusal 0 → Clear (messageTable s lent) × Clear four
-  unfolding checkOf checkTable messageTable earlierRows layoutRows gridRows dataRows parsedOf
+  unfolding checkOf checkTable messageTable
   through e =
       clear-parts (messageTable s lent) four
       (clear (checkTable s lent f) (tt, (tt, (tt, (tt, (tt, (tt, (tt, (tt, (tt, (tt, (tt, (tt, (tt, (tt, (tt, (tt, tt)))))))))))))))) (taken-by _ e))

@@ -12,7 +12,7 @@ use lib.ListN.{length, take, drop}
 use lib.Seq.{take-append-seam, drop-append-seam}
 use Rattle.rules.specs.declared.{Refusal.Refusal, Form.Form}
 use Rattle.rules.specs.Table.{Row, given, refusal, accepted, firstOr, first, answered, filled}
-use Rattle.rules.specs.Reading.{layoutRows, gridRows, dataRows, parsedOf, earlierRows, messageTable, ownRefusal, answerBy, headerOf, readTable, readRefusal, readOf, bitmapOf, numberingOf}
+use Rattle.rules.specs.Reading.{messageTable, ownRefusal, answerBy, headerOf, readTable, readRefusal, readOf, bitmapOf, numberingOf}
 use Rattle.rules.specs.Bitmap.{Lent}
 use Rattle.rules.specs.Display.{displayTable, displayOf}
 use Rattle.rules.specs.Writing.{Parts, lengthOf, writeTable, writeRefusal, writeOf}
@@ -66,7 +66,7 @@ reply-among [] = inl refl
 reply-among (given r test ∷ rows) = among-on test r (first rows) (numbers rows) (reply-among rows)
 
 pub row-numbers : RowNumbers
-unfolding displayTable readTable checkTable writeTable packTable messageTable earlierRows layoutRows gridRows dataRows parsedOf
+unfolding displayTable readTable checkTable writeTable packTable messageTable
 row-numbers = record {
   reader = λ s lent. refl;
   lists = λ s lent values marks. refl;
@@ -89,7 +89,7 @@ whole {A} r z found zeros = go (accepted r) refl
 
 -- the tables of all that is answered: an accepted one's reply is refusal 0
 display-zero : (s : List ℕ) (lent : Lent) → accepted (first (displayTable s lent)) ≡ true → first (displayTable s lent) ≡ refusal 0
-unfolding displayTable messageTable earlierRows layoutRows gridRows dataRows parsedOf
+unfolding displayTable messageTable
 display-zero s lent = zero-of (displayTable s lent) (tt, (tt, (tt, (tt, (tt, (tt, (tt, (tt, (tt, (tt, (tt, (tt, (tt, tt)))))))))))))
 
 write-zero : (w : Parts) (out : List ℕ) → accepted (writeRefusal w out) ≡ true → writeRefusal w out ≡ refusal 0
