@@ -3,6 +3,7 @@
 pub mod Rows
 pub mod Fields
 pub mod Whole
+pub mod Flags
 pub mod Signs
 pub mod Lead
 -- what a taken message is

@@ -1,7 +1,7 @@
 -- What the writer's rows leave of the flags, and of a point.
 use Prim.Native.Nat.{ℕ, _^_, _≤_, _<_}
 use mathlib.Core.Bool.{Bool, true, false, not, _||_, _&&_}
-use mathlib.Core.Path.{_≡_, refl}
+use mathlib.Core.Path.{_≡_, refl, _∙_}
 use native.Mathlib.Omega.{arith}
 use borrow.Author.Tests.{ltb-false, leb-false, eqb-true, eq-eqb, not-false}
 use lib.Dec.{ltb, leb, eqb}
@@ -9,13 +9,18 @@ use mathlib.Core.List.{List}
 use Rattle.bits.proofs.Tests.{or-false}
 use Rattle.bits.proofs.Below.{none-below}
 use Rattle.rules.specs.Bitmap.{markOf, markOdd}
+use Rattle.rules.specs.Values.{flagsBad}
 use Rattle.rules.specs.Writing.{pointBad}
 use Rattle.laws.proofs.Rows.{and-false, clash, is-eq}
+use Rattle.laws.proofs.Flags.{flags-bad}
 
-pub flags-two : (f : ℕ) (a b : Bool) → eqb f 0 ≡ a → eqb f 2 ≡ b → not (a || b) ≡ false → f ≤ 2
-flags-two f true b p q e = omega (arith, eqb-true f 0 p)
-flags-two f false true p q e = omega (arith, eqb-true f 2 q)
-flags-two f false false p q e = clash true refl e
+two : (f : ℕ) (a b : Bool) → eqb f 0 ≡ a → eqb f 2 ≡ b → not (a || b) ≡ false → f ≤ 2
+two f true b p q e = omega (arith, eqb-true f 0 p)
+two f false true p q e = omega (arith, eqb-true f 2 q)
+two f false false p q e = clash true refl e
+
+pub flags-two : (f : ℕ) → flagsBad f ≡ false → f ≤ 2
+flags-two f e = two f _ _ refl refl (flags-bad f ∙ e)
 
 -- what row 13 leaves of a point
 pub record PointOk (bitmap : Bool) (bits m v : ℕ) : Type 0 where

@@ -11,7 +11,7 @@ use Rattle.rules.specs.Checking.{anyPresent, sourceFaults, sourceDiffers
 use Rattle.rules.specs.Display.{refBits, stepBits, shownReference, shownStep, displayTable, displayOf}
 use Rattle.rules.specs.Grid.{gridAt, gridFields, gdsOf, catalogue, lookup, gridFrom, noGrid, gdsFaults, scanBad, gridFaults}
 use Rattle.rules.specs.Listing.{numeral, decimalDigits, decimal, decimalSigned, hexDigits, joinedTo, line, cell, rowLine, rowLines, firstLine, refusedLine, listingRefusal, listingOf}
-use Rattle.rules.specs.Numbers.{joined, signed}
+use Rattle.rules.specs.Numbers.{bit, joined, signed}
 use Rattle.rules.specs.Packing.{lowest, reference, spellingOf, stepped, above, tooWide, exponent, packedAt, packed, packTable, packRefusal, packOf, packedAfter}
 use Rattle.rules.specs.Places.{hasGrid, hasBitmap, sectionAt, placesOf, sectionsOf, sizeBad, markBad, editionBad, totalFaults, sectionFaults, placesFaults}
 use Rattle.rules.specs.Points.{dataNumber, valueAt, scattered, gathered}
@@ -19,11 +19,11 @@ use Rattle.rules.specs.Reading.{gridIn, gridOf, pointsIn, bitmapIn, inFo
 use Rattle.rules.specs.RoundTrip.{partsIn, stains, canonical}
 use Rattle.rules.specs.Table.{orAll, anyOf, firstOr, first, filled}
 use Rattle.rules.specs.Time.{yearOf, leap, daysIn, momentFaults, momentAt, noMoment, timeFaults}
-use Rattle.rules.specs.Values.{packingAt, scaleAt, packingFaults, lengthBad, valuesAt, bdsOf, sizeOf, whole, wholeOf}
+use Rattle.rules.specs.Values.{packingAt, scaleAt, flagsBad, packingFaults, lengthBad, valuesAt, bdsOf, sizeOf, whole, wholeOf}
 use Rattle.rules.specs.Writing.{gridFor, pointsFor, pdsFaults, listsFit, storedFaults, pointBad, partsFaults, sectionsFor, message, writeTable, writeRefusal, lengthOf, writeOf, outputAfter}
 
 unfoldable pub computes : ℕ
-unfolding leadingZeros bitOf bitsIn run count runs join putAt packedInto numberAt tab anyBelow leastBelow bitmapAt lentFaults bitmapFaults noBitmap inForce bitmapOctets presentBy bmsOf turned spotOf pointOf charted pointed anyPresent sourceFaults sourceDiffers scaleFaults farFrom pointOut checkTable checkOf refBits stepBits shownReference shownStep displayTable displayOf gridAt gridFields gdsOf catalogue lookup gridFrom noGrid gdsFaults scanBad gridFaults numeral decimalDigits decimal decimalSigned hexDigits joinedTo line cell rowLine rowLines firstLine refusedLine listingRefusal listingOf joined signed lowest reference spellingOf stepped above tooWide exponent packedAt packed packTable packRefusal packOf packedAfter hasGrid hasBitmap sectionAt placesOf sectionsOf sizeBad markBad editionBad totalFaults sectionFaults placesFaults dataNumber valueAt scattered gathered gridIn gridOf pointsIn bitmapIn inForceIn presentIn presentCount packingIn scaleIn decimalIn dataIn valuesIn marksIn layoutRows gridRows dataRows parsedOf earlierRows messageTable refusedBy foundBy foundIn ownRefusal answerBy headerOf readTable readRefusal readOf valuesAfter marksAfter bitmapOf sectionOf numberingOf partsIn stains canonical orAll anyOf firstOr first filled yearOf leap daysIn momentFaults momentAt noMoment timeFaults packingAt scaleAt packingFaults lengthBad valuesAt bdsOf sizeOf whole wholeOf gridFor pointsFor pdsFaults listsFit storedFaults pointBad partsFaults sectionsFor message writeTable writeRefusal lengthOf writeOf outputAfter
+unfolding leadingZeros bitOf bitsIn run count runs join putAt packedInto numberAt tab anyBelow leastBelow bitmapAt lentFaults bitmapFaults noBitmap inForce bitmapOctets presentBy bmsOf turned spotOf pointOf charted pointed anyPresent sourceFaults sourceDiffers scaleFaults farFrom pointOut checkTable checkOf refBits stepBits shownReference shownStep displayTable displayOf gridAt gridFields gdsOf catalogue lookup gridFrom noGrid gdsFaults scanBad gridFaults numeral decimalDigits decimal decimalSigned hexDigits joinedTo line cell rowLine rowLines firstLine refusedLine listingRefusal listingOf bit joined signed lowest reference spellingOf stepped above tooWide exponent packedAt packed packTable packRefusal packOf packedAfter hasGrid hasBitmap sectionAt placesOf sectionsOf sizeBad markBad editionBad totalFaults sectionFaults placesFaults dataNumber valueAt scattered gathered gridIn gridOf pointsIn bitmapIn inForceIn presentIn presentCount packingIn scaleIn decimalIn dataIn valuesIn marksIn layoutRows gridRows dataRows parsedOf earlierRows messageTable refusedBy foundBy foundIn ownRefusal answerBy headerOf readTable readRefusal readOf valuesAfter marksAfter bitmapOf sectionOf numberingOf partsIn stains canonical orAll anyOf firstOr first filled yearOf leap daysIn momentFaults momentAt noMoment timeFaults packingAt scaleAt flagsBad packingFaults lengthBad valuesAt bdsOf sizeOf whole wholeOf gridFor pointsFor pdsFaults listsFit storedFaults pointBad partsFaults sectionsFor message writeTable writeRefusal lengthOf writeOf outputAfter
 computes = 0
 
 -- document 01, "Specimen, 94 octets"

@@ -1,20 +1,21 @@
 -- Document 01, "Points and the chart": the row and column of a grid point and back, over the shape of a grid alone.
 use Prim.Native.Nat.{ℕ, _+_, _-_, _*_, _/_, _%_}
 use mathlib.Core.Bool.{Bool, _&&_, cond}
-use lib.Dec.{ltb, leb}
+use lib.Dec.{ltb}
 use Rattle.rules.specs.declared.{Shape.Shape, GridPoint.GridPoint, Spot.Spot, Charted.Charted, Charted.the-variants.On, Charted.the-variants.Off, Pointed.Pointed, Pointed.the-variants.At, Pointed.the-variants.Off as Nowhere}
+use Rattle.rules.specs.Numbers.{bit}
 
--- "Scanning bit 1 set: columns run west" (bit 1 is worth 128, bit 2 64, bit 3 32)
+-- "Scanning bit 1 set: columns run west"
 abbrev pub west : ℕ → Bool
-west scan = leb 128 scan
+west scan = bit 1 scan
 
 -- "Bit 2 set: rows run north"
 abbrev pub north : ℕ → Bool
-north scan = leb 64 (scan % 128)
+north scan = bit 2 scan
 
 -- "Bit 3 set: points of one column are consecutive, else of one row"
 abbrev pub byColumn : ℕ → Bool
-byColumn scan = leb 32 (scan % 64)
+byColumn scan = bit 3 scan
 
 -- a count of n counted from the other end where the direction is turned; its own way back
 unfoldable pub turned : Bool → ℕ → ℕ → ℕ

@@ -1,8 +1,8 @@
 -- Document 01, "Octets and bits are counted from 1 .. Numbers are high octet first", and "Numbers": sign and magnitude.
-use Prim.Native.Nat.{ℕ, suc, _+_, _-_, _*_, _%_, _^_}
+use Prim.Native.Nat.{ℕ, suc, _+_, _-_, _*_, _/_, _%_, _^_}
 use mathlib.Core.List.{List, [], _∷_, _++_}
 use mathlib.Core.Bool.{Bool, cond, _||_}
-use lib.Dec.{ltb}
+use lib.Dec.{ltb, eqb}
 use lib.IntN.{ℤ, pos, negsuc, negℤ, natAbs}
 use lib.Signed.{ltZ}
 use lib.ListN.{getD}
@@ -12,6 +12,10 @@ use Rattle.bits.specs.Bits.{bitOf, bitsIn, run, runs}
 -- octet k, counted from 1, of what starts at place p (counted from 0) of the octets s; past the end of s it reads 0
 abbrev pub octet : List ℕ → ℕ → ℕ → ℕ
 octet s p k = getD s (p + (k - 1)) 0
+
+-- "bits are counted from 1, bit 1 leftmost": whether bit k of an octet is set
+unfoldable pub bit : ℕ → ℕ → Bool
+bit k x = eqb (x / 2 ^ (8 - k) % 2) 1
 
 -- the number in octets k to l, "high octet first"
 abbrev pub number : List ℕ → ℕ → ℕ → ℕ → ℕ

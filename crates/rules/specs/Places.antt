@@ -4,12 +4,12 @@ use mathlib.Core.Bool.{Bool, true, not, _&&_, cond}
 use mathlib.Core.List.{List, [], _∷_}
 use lib.ListN.{length, take, drop}
 use mathlib.Core.Path.{_≡_}
-use lib.Dec.{ltb, leb, eqb}
+use lib.Dec.{ltb, eqb}
 use denote.Ref.{RefT, now, ptr}
 use Rattle.rules.specs.declared.{Part.Part, Places.Places}
 use Rattle.rules.specs.Bounds.{messageLeast, messageMost, pdsLeast, pdsMost, gdsLeast, bmsLeast, bdsLeast}
 use Rattle.rules.specs.Table.{anyOf}
-use Rattle.rules.specs.Numbers.{octet, number, outside}
+use Rattle.rules.specs.Numbers.{octet, bit, number, outside}
 
 -- the octets of a part
 abbrev pub octetsOf : List ℕ → Part → List ℕ
@@ -44,10 +44,10 @@ endStart s = length s - 4
 
 -- "octet 8 bit 1 = grid section present, bit 2 = bitmap section present", of a PDS at place p
 unfoldable pub hasGrid : List ℕ → ℕ → Bool
-hasGrid s p = leb 128 (octet s p 8)
+hasGrid s p = bit 1 (octet s p 8)
 
 unfoldable pub hasBitmap : List ℕ → ℕ → Bool
-hasBitmap s p = leb 64 (octet s p 8 % 128)
+hasBitmap s p = bit 2 (octet s p 8)
 
 -- a section at a place, "length 1-3"; an absent one has length 0
 unfoldable pub sectionAt : List ℕ → Bool → ℕ → Part

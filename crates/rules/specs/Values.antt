@@ -2,13 +2,13 @@
 use Prim.Native.Nat.{ℕ, _+_, _-_, _*_, _/_, _%_, _^_}
 use mathlib.Core.Bool.{Bool, not, _||_, cond}
 use mathlib.Core.List.{List, [], _∷_}
-use lib.Dec.{ltb, eqb}
+use lib.Dec.{ltb, leb, eqb}
 use lib.IntN.{ℤ, pos, negℤ}
 use lib.ListN.{length}
 use Rattle.rules.specs.declared.{Signed.Signed, Part.Part, Packing.Packing, Scale.Scale}
 use Rattle.rules.specs.Bounds.{bitsMost, bdsHead}
 use Rattle.bits.specs.Bits.{bitsIn, runs, octetsFor}
-use Rattle.rules.specs.Numbers.{Field, field, laid, evenFrom, octet, number, signedAt, signedField}
+use Rattle.rules.specs.Numbers.{Field, field, laid, evenFrom, octet, bit, number, signedAt, signedField}
 
 -- "octet 4 high half flags, low half unused bits; .. N in 11"
 unfoldable pub packingAt : List ℕ → ℕ → Packing
@@ -18,9 +18,11 @@ packingAt s b = record { flags = octet s b 4 / 16; bits = octet s b 11 }
 unfoldable pub scaleAt : List ℕ → ℕ → Scale
 scaleAt s b = record { e = signedAt s b 5 6; r = number s b 7 10 }
 
--- "Flag bits 1, 2 and 4 are 0; bit 3 is carried": of the four, bit 3 is worth 2
-abbrev pub flagsBad : ℕ → Bool
-flagsBad flags = not (eqb flags 0 || eqb flags 2)
+-- "Flag bits 1, 2 and 4 are 0; bit 3 is carried": of the octet whose "high half" the flags are; a number above 15 is no half of an octet
+unfoldable pub flagsBad : ℕ → Bool
+flagsBad flags =
+    let x = flags * 16 in
+    leb 16 flags || bit 1 x || bit 2 x || bit 4 x
 
 -- 11: "BDS flag bit 1, 2 or 4 set, N over 24"
 unfoldable pub packingFaults : Packing → List Bool

@@ -5,7 +5,7 @@ use mathlib.Core.Path.{_≡_, refl, sym, subst, _∙_, ap}
 use mathlib.Core.Logic.{_⊎_, inl, inr, ⊎-elim}
 use mathlib.Core.List.{List, [], _∷_}
 use native.Mathlib.Omega.{arith}
-use lib.Dec.{ltb, leb, eqb}
+use lib.Dec.{ltb, eqb}
 use lib.ListN.{length, getD, take, drop}
 use lib.Seq.{getD-drop}
 use Rattle.bits.specs.Bits.{bitsIn, run, count, octetsFor}
@@ -17,7 +17,7 @@ use Rattle.bits.proofs.Cut.{bits-drop, bits-take, octets-here}
 use Rattle.bits.proofs.Marks.{count-same}
 use Rattle.rules.specs.declared.{Places.Places, Packing.Packing, Found.Found, Found.the-variants.Nothing, Found.the-variants.Given, Bitmap.Bitmap, Bitmap.the-variants.Without, Bitmap.the-variants.Carried, Bitmap.the-variants.Stored}
 use Rattle.rules.specs.Bounds.{messageLeast, messageMost, gdsLength}
-use Rattle.rules.specs.Numbers.{octet, number, signed, outside}
+use Rattle.rules.specs.Numbers.{octet, bit, number, signed, outside}
 use Rattle.rules.specs.Table.{anyOf}
 use Rattle.rules.specs.Places.{octetsOf, grib, sevens, pdsStart, endStart, hasGrid, hasBitmap, sectionAt, placesOf, sizeBad, markBad, editionBad, totalFaults, placesFaults}
 use Rattle.rules.specs.Time.{momentFaults, timeFaults}
@@ -117,11 +117,11 @@ module _ (s o : List ℕ) (lent : Lent) (ws : Below 256 s) (wo : Below 256 o) (l
   -- the sections lie where they lay
   grid-there : hasGrid o pdsStart ≡ hasGrid s pdsStart
   unfolding hasGrid
-  grid-there = ap (leb 128) (by-bits 15 (front-bits 120 8 (omega (arith, pds-least))))
+  grid-there = ap (bit 1) (by-bits 15 (front-bits 120 8 (omega (arith, pds-least))))
 
   bitmap-there : hasBitmap o pdsStart ≡ hasBitmap s pdsStart
   unfolding hasBitmap
-  bitmap-there = ap (λ (x : ℕ). leb 64 (x % 128)) (by-bits 15 (front-bits 120 8 (omega (arith, pds-least))))
+  bitmap-there = ap (bit 2) (by-bits 15 (front-bits 120 8 (omega (arith, pds-least))))
 
   gated-same : (b : Bool) (x y : ℕ) → (b ≡ true → x ≡ y) → cond b x 0 ≡ cond b y 0
   gated-same true x y h = h refl

@@ -8,11 +8,11 @@ use native.Mathlib.Nat.{add-zero}
 use borrow.Author.Tests.{le-ltb}
 use lib.ListN.{length, getD, take, drop, length-append}
 use lib.Seq.{drop-append-seam, drop-drop, take-append-seam}
-use lib.Dec.{leb, eqb}
+use lib.Dec.{eqb}
 use Rattle.bits.proofs.Cut.{run-at}
 use Rattle.rules.specs.declared.{Part.Part, Places.Places}
 use Rattle.rules.specs.Bounds.{messageLeast, messageMost, pdsLeast, pdsMost, gdsLeast, bmsLeast, bdsLeast}
-use Rattle.rules.specs.Numbers.{Field, field, laid, number}
+use Rattle.rules.specs.Numbers.{Field, field, laid, bit, number}
 use Rattle.rules.specs.Table.{anyOf}
 use Rattle.rules.specs.Places.{octetsOf, after, grib, sevens, pdsStart, endStart, hasGrid, hasBitmap, sectionAt, placesOf, sizeBad, markBad, editionBad, totalFaults, sectionFaults, placesFaults}
 use Rattle.rules.specs.Time.{yearOf, momentAt, timeFaults, momentFaults}
@@ -84,11 +84,11 @@ places-by s a b c d e1 e2 e3 e4 =
 module _ (s : List ℕ) (k : ℕ) (p : List ℕ) (same : (i : ℕ) → i < pdsLeast → getD s (k + i) 0 ≡ getD p i 0) where
   pub grid-same : hasGrid s k ≡ hasGrid p 0
   unfolding hasGrid
-  grid-same = ap (leb 128) (same 7 (omega arith))
+  grid-same = ap (bit 1) (same 7 (omega arith))
 
   pub bitmap-same : hasBitmap s k ≡ hasBitmap p 0
   unfolding hasBitmap
-  bitmap-same = ap (λ (x : ℕ). leb 64 (x % 128)) (same 7 (omega arith))
+  bitmap-same = ap (bit 2) (same 7 (omega arith))
 
   pub time-same : timeFaults s k ≡ timeFaults p 0
   unfolding timeFaults

@@ -103,7 +103,7 @@ module _ (w : Parts) (out : List ℕ) (nf : NumberFits (w .form .bitmap)) (rf : 
 
   flags-lt : w .form .packing .flags < 16
   unfolding packingFaults
-  flags-lt = omega (arith, flags-two (w .form .packing .flags) _ _ refl refl (pack-none .1 .0))
+  flags-lt = omega (arith, flags-two (w .form .packing .flags) (pack-none .1 .0))
 
   bits-most : w .form .packing .bits ≤ bitsMost
   unfolding packingFaults

@@ -50,7 +50,7 @@ scale-ok scale packing h =
     let d = none-of (scaleFaults scale packing) h in
     record {
       e = omega (arith, within exponentMost (scale .e .value) (d .0));
-      flags = flags-two (packing .flags) _ _ refl refl (d .1 .0);
+      flags = flags-two (packing .flags) (d .1 .0);
       bits = ltb-false bitsMost (packing .bits) (d .1 .1 .0);
     }
 

@@ -1,5 +1,6 @@
 -- The number of a place: both counts stay below their bounds, so the products fit; then call by call.
 use Rattle.rules.specs.Chart.{pointOf}
+use Rattle.laws.proofs.Flags.{bit-1, bit-2, bit-3}
 use Rattle.chart.proofs.Laws.{columns-fit, rows-fit}
 use native.Mathlib.Omega.{arith}
 use borrow.Author.Needs.{needs}
@@ -20,7 +21,9 @@ add-pick-2 c = record { fits = rows-fit _ _ _ _ _ _ _ _ (c .before .turned .ensu
 
 returns : tie.Need-returns
 unfolding pointOf
-returns c = rw (c .pick .ensures, c .before .turned2 .ensures, c .before .before .turned .ensures)
+returns c =
+    let scan = c .before .before .before .args .scan in
+    rw (c .pick .ensures, c .before .turned2 .ensures, c .before .before .turned .ensures, bit-1 scan (omega arith), bit-2 scan, bit-3 scan)
 
 pub point-spec : {M : Type 1} → statement M
 point-spec =
