@@ -1,7 +1,7 @@
 -- The laws of runs of bits.
 use mathlib.Core.Path.{_≡_, refl, sym, ap, ap₂, _∙_, subst}
 use Prim.Native.Nat.{ℕ, zero, suc, _+_, _-_, _*_, _/_, _%_, _^_, _≤_, _<_}
-use native.Mathlib.Nat.{add-zero, add-suc, add-assoc, add-mul, mul-assoc, pow-suc, mod-lt, zero-lt-suc, div-one, div-eq-of-lt, div-add-mod', div-div-eq-div-mul, zero-add, one-mul, lt-of-lt-of-le, mul-le-mul-right}
+use native.Mathlib.Nat.{add-zero, add-suc, add-assoc, add-mul, mul-assoc, pow-suc, mod-lt, zero-lt-suc, zero-sub, div-zero, div-one, div-eq-of-lt, div-add-mod', div-div-eq-div-mul, zero-add, one-mul, lt-of-lt-of-le, mul-le-mul-right}
 use native.Mathlib.Numerals.{add-one-le}
 use native.Mathlib.Omega.{arith}
 use mathlib.Core.List.{List}
@@ -20,6 +20,12 @@ Bits f = (i : ℕ) → f i < 2
 pub bitsIn-bits : (w : ℕ) (xs : List ℕ) → Bits (bitsIn w xs)
 unfolding bitsIn bitOf
 bitsIn-bits w xs i = mod-lt (getD xs (i / w) 0 / 2 ^ (w - 1 - i % w)) (zero-lt-suc 1)
+
+-- at width 0 every place reads the lowest bit of the first number
+pub no-width : (xs : List ℕ) (i : ℕ) → bitsIn 0 xs i ≡ getD xs 0 0 % 2
+unfolding bitsIn bitOf
+no-width xs i =
+    ap₂ (λ (k e : ℕ). getD xs k 0 / 2 ^ e % 2) (div-zero i) (zero-sub (i % 0)) ∙ ap (λ (x : ℕ). x % 2) (div-one (getD xs 0 0))
 
 -- (d) n bits make a number below 2 ^ n
 pub run-lt : {f : ℕ → ℕ} → Bits f → (at n : ℕ) → run f at n < 2 ^ n

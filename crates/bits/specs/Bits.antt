@@ -10,7 +10,8 @@ use Rattle.bits.specs.Tables.{tab}
 unfoldable pub bitOf : ℕ → ℕ → ℕ → ℕ
 bitOf w x j = x / 2 ^ (w - 1 - j) % 2
 
--- the bits of numbers of w bits each, one number after another, and zeros after them. Of octets w is 8
+-- the bits of numbers of w bits each, w above 0, one number after another, and zeros after them; of octets w is 8. Numbers of no bits have none to follow one another: at width 0
+-- every place reads the lowest bit of the first number, 0 where that is below 2^0 (law no-width)
 unfoldable pub bitsIn : ℕ → List ℕ → ℕ → ℕ
 bitsIn w xs i = bitOf w (getD xs (i / w) 0) (i % w)
 

@@ -16,7 +16,8 @@ use rules::Signed;
 use rules::bounds::SHOWN_LEAST;
 use rules::bounds::SHOWN_MOST;
 
-// The bits of R as a double: sign s, exponent a, digits b. Its leading one is not written, so the digits move up to the exponent's field.
+// The bits of R as a double: sign s, exponent a, digits b. Its leading one is not written, so the digits move up to the exponent's field;
+// 773 is `refExponent`.
 fn ref_bits(s: u64, a: u64, b: u32) -> u64
     requires { ⌜ (s < 2) × (a < 128) × (b < 16777216) ⌝ }
     ensures { λ r. ⌜ r ≡ refBits s a b ⌝ }
