@@ -6,12 +6,10 @@
 
 #include "grib1.h"
 
-enum { OCTETS = 262144, POINTS = 65536 };
-
 /* Lent to the codec: it has no memory of its own. One octet more than a message may have, so that a longer file is seen to be longer. */
-static uint8_t message[OCTETS + 1];
-static uint32_t values[POINTS];
-static uint8_t marks[POINTS];
+static uint8_t message[GRIB1_MESSAGE_MOST + 1];
+static uint32_t values[GRIB1_POINTS_MOST];
+static uint8_t marks[GRIB1_POINTS_MOST];
 
 /* No stored bitmap: number 0, no octets, and a pointer that is not NULL. */
 static const uint8_t none[1];
@@ -27,7 +25,7 @@ static double ten(int32_t d)
 
 static int draw(size_t len)
 {
-    Grib1Header h = grib1_read(message, len, 0, none, 0, values, POINTS, marks, POINTS);
+    Grib1Header h = grib1_read(message, len, 0, none, 0, values, GRIB1_POINTS_MOST, marks, GRIB1_POINTS_MOST);
     Grib1Display shown = grib1_display(message, len, 0, none, 0);
     uint32_t reply = h.reply != GRIB1_ACCEPTED ? h.reply : shown.reply;
     uint32_t row, column;

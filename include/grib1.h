@@ -24,6 +24,38 @@
 extern "C" {
 #endif
 
+/* The version of what is declared here. While its first number is 0, a new second number may change a name, a field or a
+ * function, and a new third one changes none. */
+#define GRIB1_VERSION_MAJOR 0
+#define GRIB1_VERSION_MINOR 2
+#define GRIB1_VERSION_PATCH 0
+#define GRIB1_VERSION "0.2.0"
+
+/* The rules' bounds, and what to lend. */
+#define GRIB1_MESSAGE_LEAST 8          /* octets of a message */
+#define GRIB1_MESSAGE_MOST 262144
+#define GRIB1_WRITTEN_MOST 205886      /* octets of a message that is written here: out of so many holds any */
+#define GRIB1_PDS_LEAST 28             /* octets of a PDS, an even number */
+#define GRIB1_PDS_MOST 1024
+#define GRIB1_SIDE_MOST 65534          /* ni and nj */
+#define GRIB1_POINTS_MOST 65536        /* ni x nj: values and marks of so many hold any field */
+#define GRIB1_LATITUDE_MOST 90000      /* thousandths of a degree, in magnitude */
+#define GRIB1_LONGITUDE_MOST 360000
+#define GRIB1_BITS_MOST 24             /* N, bits of a value */
+#define GRIB1_EXPONENT_MOST 32767      /* E of a message, in magnitude */
+#define GRIB1_SHOWN_LEAST (-1022)      /* E of grib1_display */
+#define GRIB1_SHOWN_MOST 1023
+#define GRIB1_STEP_MOST 24             /* E of grib1_check and grib1_pack, from 0 */
+#define GRIB1_SOURCE_MOST 8388607      /* a source number, in magnitude */
+
+/* The scanning flags of a grid: bits 1, 2 and 3 of GDS octet 28. The others are carried and mean nothing here. */
+#define GRIB1_SCAN_WEST 128            /* columns run west, else east */
+#define GRIB1_SCAN_NORTH 64            /* rows run north, else south */
+#define GRIB1_SCAN_BY_COLUMN 32        /* points of one column are consecutive, else of one row */
+
+/* A di or dj that is missing, all ones. */
+#define GRIB1_MISSING 65535
+
 /* What a reply says. The first that applies is given, in number order; grib1_check gives 1 to 12, then 18, 15, 16,
  * 17, and grib1_pack gives 5, 18, 15, 11, 19, then the rest of grib1_write's. */
 enum grib1_reply {
@@ -85,17 +117,16 @@ typedef struct {
     int32_t lo2;               /* longitude of the last grid point */
     uint16_t ni;               /* points along a row: the chart's columns */
     uint16_t nj;               /* points along a column: the chart's rows */
-    uint16_t di;               /* step along a row, 65,535 where it is missing */
-    uint16_t dj;               /* step along a column, 65,535 where it is missing */
+    uint16_t di;               /* distance of points along a row, or GRIB1_MISSING */
+    uint16_t dj;               /* distance of points along a column, or GRIB1_MISSING */
     uint8_t flags;             /* resolution flags, GDS octet 17 as carried */
-    uint8_t scan;              /* scanning flags, GDS octet 28 as carried: 128 columns run west, 64 rows run north, 32
-                                  by columns */
+    uint8_t scan;              /* scanning flags, GDS octet 28 as carried: GRIB1_SCAN_WEST and so on */
 } Grib1Grid;
 
 /* What a message says, but for its lists. A value X at a point stands for Y with Y x 10^D = R + X x 2^E. */
 typedef struct {
     uint32_t reply;            /* enum grib1_reply: 0, 1 to 12, and 14 of grib1_read */
-    uint32_t points;           /* n, the grid's points: ni x nj, at most 65,536 */
+    uint32_t points;           /* n, the grid's points: ni x nj, at most GRIB1_POINTS_MOST */
     uint32_t present;          /* how many of them are present */
     int32_t d;                 /* D, the decimal scale */
     int32_t e;                 /* E, the binary scale */
@@ -199,7 +230,7 @@ Grib1Data grib1_data_number(const uint8_t *message, size_t message_len, uint16_t
     size_t store_len, uint32_t point);
 
 /* Writes the message of a PDS, a form, E and R's four octets, and n values and n marks. Reads pds, store, values and
- * marks; fills the message's octets of out and leaves later ones. 205,886 octets of out hold any message. */
+ * marks; fills the message's octets of out and leaves later ones. GRIB1_WRITTEN_MOST octets of out hold any message. */
 Grib1Written grib1_write(const uint8_t *pds, size_t pds_len, Grib1Form form, int32_t e, uint32_t r, uint16_t number,
     const uint8_t *store, size_t store_len, const uint32_t *values, size_t values_len, const uint8_t *marks,
     size_t marks_len, uint8_t *out, size_t out_len);

@@ -19,9 +19,11 @@
 //! # Ok::<(), grib1::Refusal>(())
 //! ```
 
+pub mod limits;
 mod records;
 mod refusal;
 mod rows;
+pub mod scan;
 
 #[cfg(feature = "driver")]
 mod driver;
@@ -38,6 +40,9 @@ compile_error!("libgrib1.a is x86-64 code: no program of this processor can link
 
 pub use refusal::Refusal;
 pub use rows::{Row, Rows};
+
+/// The version of this crate, and of `include/grib1.h`.
+pub const VERSION: &str = env!("CARGO_PKG_VERSION");
 
 /// A stored bitmap that is lent with a message: its number and its octets.
 #[derive(Clone, Copy, Debug)]
@@ -70,7 +75,8 @@ pub enum Section {
     End = 5,
 }
 
-/// A latitude/longitude grid; corners in thousandths of a degree, north and east positive; steps of 65,535 are missing.
+/// A latitude/longitude grid; corners in thousandths of a degree, north and east positive; `di` and `dj` may be `limits::MISSING`; `scan` has the bits
+/// of the module `scan`.
 #[derive(Clone, Copy, Debug, PartialEq, Eq)]
 pub struct Grid {
     pub ni: u16,

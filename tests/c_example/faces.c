@@ -53,7 +53,7 @@ static void is_specimen(int line, Grib1Header h)
     same_at(line, h.grid.di, 1000);
     same_at(line, h.grid.dj, 1000);
     same_at(line, h.grid.flags, 128);
-    same_at(line, h.grid.scan, 64);
+    same_at(line, h.grid.scan, GRIB1_SCAN_NORTH);
     part(line, h.pds, 0, 8, 28);
     part(line, h.gds, 0, 36, 32);
     part(line, h.bms, 0, 68, 8);

@@ -1,0 +1,10 @@
+//! The scanning flags of a grid: bits 1, 2 and 3 of GDS octet 28. The others are carried and mean nothing here.
+
+/// Columns run west, else east.
+pub const WEST: u8 = 128;
+
+/// Rows run north, else south.
+pub const NORTH: u8 = 64;
+
+/// Points of one column are consecutive, else of one row.
+pub const BY_COLUMN: u8 = 32;

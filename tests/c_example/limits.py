@@ -1,0 +1,63 @@
+"""The constants of include/grib1.h and of the Rust crate are those of crates/rules/src/bounds.rt, which the codec is proved with, and their versions are one."""
+import os
+import re
+import sys
+
+root = sys.argv[1]
+wrong = []
+
+
+def text(*parts):
+    with open(os.path.join(root, *parts), encoding="utf-8") as f:
+        return f.read()
+
+
+def numbers(source, pattern):
+    return {m[1]: int(m[2]) for m in re.finditer(pattern, source, re.M)}
+
+
+bounds = numbers(text("crates", "rules", "src", "bounds.rt"), r"^pub const (\w+): \w+ = (-?\d+);$")
+header = text("include", "grib1.h")
+c = numbers(header, r"^#define GRIB1_(\w+) \(?(-?\d+)\)?(?:\s|$)")
+rust = numbers(text("rust", "src", "limits.rs"), r"^pub const (\w+): \w+ = (-?\d+);$")
+scan = numbers(text("rust", "src", "scan.rs"), r"^pub const (\w+): \w+ = (\d+);$")
+
+
+def even(octets):
+    return octets + octets % 2
+
+
+# what no caller meets: the bounds of the listing program, and of sections that are whole in what is lent
+INSIDE = {"LISTED_MOST", "LISTED_ROOM", "GDS_LEAST", "GDS_LENGTH", "BMS_LEAST", "BMS_HEAD", "BDS_LEAST", "BDS_HEAD"}
+limits = {name: value for name, value in bounds.items() if name not in INSIDE}
+
+# every section at its most: indicator, PDS, GDS, a bitmap that is carried, data, end (crates/sections/specs/Layout.antt, roomMost)
+limits["WRITTEN_MOST"] = (
+    8 + bounds["PDS_MOST"] + bounds["GDS_LENGTH"] + even(bounds["BMS_HEAD"] + bounds["POINTS_MOST"] // 8)
+    + even(bounds["BDS_HEAD"] + bounds["POINTS_MOST"] * bounds["BITS_MOST"] // 8) + 4
+)
+limits["MISSING"] = 2**16 - 1
+for where, found in [("include/grib1.h", c), ("rust/src/limits.rs", rust)]:
+    own = {name: value for name, value in found.items() if not name.startswith(("VERSION", "SCAN", "STACK"))}
+    for name in sorted(limits.keys() | own.keys()):
+        if limits.get(name) != own.get(name):
+            wrong.append(f"{where}: {name} is {own.get(name)}, and by the rules {limits.get(name)}")
+
+# "Scanning bit 1 set: columns run west. Bit 2 set: rows run north. Bit 3 set: points of one column are consecutive"
+bits = {"WEST": 128, "NORTH": 64, "BY_COLUMN": 32}
+for where, found in [("include/grib1.h", {n[5:]: v for n, v in c.items() if n.startswith("SCAN_")}), ("rust/src/scan.rs", scan)]:
+    if found != bits:
+        wrong.append(f"{where}: the scanning bits are {found}, and by the rules {bits}")
+
+version = ".".join(str(c[f"VERSION_{part}"]) for part in ("MAJOR", "MINOR", "PATCH"))
+for where, found in [
+    ("include/grib1.h, GRIB1_VERSION", re.search(r'^#define GRIB1_VERSION "(.*)"$', header, re.M)[1]),
+    ("rust/Cargo.toml", re.search(r'^version = "(.*)"$', text("rust", "Cargo.toml"), re.M)[1]),
+]:
+    if found != version:
+        wrong.append(f"{where}: version {found}, not {version}")
+
+if wrong:
+    print("\n".join("limits: " + w for w in wrong))
+    sys.exit(1)
+print(f"limits: {len(limits)} bounds and {len(bits)} scanning bits, in C and in Rust as in the rules; version {version}")
