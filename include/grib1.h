@@ -11,7 +11,8 @@
  * Thread-safe: no globals, no heap, nothing is kept between calls. Stack (measured): under 1 KiB, and in grib1_check, which holds 256 values at a time, 2.1 KiB.
  *
  * message        one GRIB message, whole: 'GRIB' to '7777'
- * number, store  the stored bitmap that is lent with the message: its number and its octets; none: 0, and any pointer with length 0
+ * store_number   the number of the stored bitmap that is lent with the message, 0 where none is
+ * store          its octets; where none is lent, any pointer with length 0
  *
  * Octets of a part, sections and grid points are counted from 0 here. */
 #ifndef GRIB1_H
@@ -119,7 +120,7 @@ typedef struct {
     uint16_t nj;               /* points along a column: the chart's rows */
     uint16_t di;               /* distance of points along a row, or GRIB1_MISSING */
     uint16_t dj;               /* distance of points along a column, or GRIB1_MISSING */
-    uint8_t flags;             /* resolution flags, GDS octet 17 as carried */
+    uint8_t resolution;        /* resolution flags, GDS octet 17 as carried */
     uint8_t scan;              /* scanning flags, GDS octet 28 as carried: GRIB1_SCAN_WEST and so on */
 } Grib1Grid;
 
@@ -137,13 +138,13 @@ typedef struct {
     Grib1Part gds;             /* the Grid Description Section; len 0 where it is absent */
     Grib1Part bms;             /* the Bit Map Section; len 0 where it is absent */
     Grib1Part bds;             /* the Binary Data Section */
-    uint16_t number;           /* the bitmap's number where it is a stored one, else 0 */
+    uint16_t bitmap_number;    /* the bitmap's number where it is a stored one, else 0 */
     uint16_t year;             /* reference time: the whole year */
     uint8_t month;             /* 1 to 12 */
     uint8_t day;               /* 1 to 31 */
     uint8_t hour;              /* 0 to 23 */
     uint8_t minute;            /* 0 to 59 */
-    uint8_t flags;             /* the four flag bits of BDS octet 4: 0, or 2 where bit 3 is set */
+    uint8_t packing_flags;     /* the four flag bits of BDS octet 4: 0, or 2 where bit 3 is set */
     uint8_t bits;              /* N, bits per value, 0 to 24 */
 } Grib1Header;
 
@@ -170,7 +171,7 @@ typedef struct {
 /* A grid point's data number. */
 typedef struct {
     uint32_t kind;             /* enum grib1_data_kind */
-    uint32_t number;           /* where it is present: how many present points stand before it */
+    uint32_t data_number;      /* where it is present: how many present points stand before it */
 } Grib1Data;
 
 /* What writing answers. */
@@ -191,34 +192,34 @@ typedef struct {
                                   number is refused by 9 */
     uint32_t bitmap;           /* enum grib1_bitmap_kind; any other number is refused by 10 */
     Grib1Grid grid;            /* read only where given is 1 */
-    uint16_t number;           /* the stored bitmap's number, read only where bitmap is GRIB1_STORED */
-    uint8_t flags;             /* the four flag bits of BDS octet 4: 0 or 2 */
+    uint16_t bitmap_number;    /* the stored bitmap's number, read only where bitmap is GRIB1_STORED */
+    uint8_t packing_flags;     /* the four flag bits of BDS octet 4: 0 or 2 */
     uint8_t bits;              /* N, 0 to 24 */
 } Grib1Form;
 
 /* The header of a message. Reads message and store. */
-Grib1Header grib1_header(const uint8_t *message, size_t message_len, uint16_t number, const uint8_t *store,
+Grib1Header grib1_header(const uint8_t *message, size_t message_len, uint16_t store_number, const uint8_t *store,
     size_t store_len);
 
 /* The header, and all points: values[i] is X of grid point i and marks[i] is 1 where it is present, 0 and 0 where it
  * is absent. Reads message and store; writes the first n of values and of marks and leaves later ones. 14 where
  * either has fewer than n. */
-Grib1Header grib1_read(const uint8_t *message, size_t message_len, uint16_t number, const uint8_t *store,
+Grib1Header grib1_read(const uint8_t *message, size_t message_len, uint16_t store_number, const uint8_t *store,
     size_t store_len, uint32_t *values, size_t values_len, uint8_t *marks, size_t marks_len);
 
 /* Where section 0 to 5 lies: indicator, PDS, GDS, BMS, BDS, end. The empty part at the message's start for another
  * number, an absent section or a refused message. Reads message and store. */
-Grib1Part grib1_section(const uint8_t *message, size_t message_len, uint16_t number, const uint8_t *store,
+Grib1Part grib1_section(const uint8_t *message, size_t message_len, uint16_t store_number, const uint8_t *store,
     size_t store_len, uint32_t section);
 
 /* Where the bitmap in force lies: just the octets that hold its n bits, first point leftmost, 1 for present; bits
  * after the nth may be ones. The empty part at the message's start where there is none or the message is refused.
  * Reads message and store. */
-Grib1Part grib1_bitmap(const uint8_t *message, size_t message_len, uint16_t number, const uint8_t *store,
+Grib1Part grib1_bitmap(const uint8_t *message, size_t message_len, uint16_t store_number, const uint8_t *store,
     size_t store_len);
 
 /* R and 2^E as doubles. Reads message and store. */
-Grib1Display grib1_display(const uint8_t *message, size_t message_len, uint16_t number, const uint8_t *store,
+Grib1Display grib1_display(const uint8_t *message, size_t message_len, uint16_t store_number, const uint8_t *store,
     size_t store_len);
 
 /* Where a grid point lies on the chart of a grid (ni, nj and scan of a Grib1Grid), and which point lies at a place. */
@@ -226,23 +227,23 @@ Grib1Place grib1_place(uint16_t ni, uint16_t nj, uint8_t scan, uint32_t point);
 Grib1Point grib1_point(uint16_t ni, uint16_t nj, uint8_t scan, uint32_t row, uint32_t column);
 
 /* The data number of a grid point of a message. Reads message and store; takes a whole header's time. */
-Grib1Data grib1_data_number(const uint8_t *message, size_t message_len, uint16_t number, const uint8_t *store,
+Grib1Data grib1_data_number(const uint8_t *message, size_t message_len, uint16_t store_number, const uint8_t *store,
     size_t store_len, uint32_t point);
 
 /* Writes the message of a PDS, a form, E and R's four octets, and n values and n marks. Reads pds, store, values and
  * marks; fills the message's octets of out and leaves later ones. GRIB1_WRITTEN_MOST octets of out hold any message. */
-Grib1Written grib1_write(const uint8_t *pds, size_t pds_len, Grib1Form form, int32_t e, uint32_t r, uint16_t number,
-    const uint8_t *store, size_t store_len, const uint32_t *values, size_t values_len, const uint8_t *marks,
-    size_t marks_len, uint8_t *out, size_t out_len);
+Grib1Written grib1_write(const uint8_t *pds, size_t pds_len, Grib1Form form, int32_t e, uint32_t r,
+    uint16_t store_number, const uint8_t *store, size_t store_len, const uint32_t *values, size_t values_len,
+    const uint8_t *marks, size_t marks_len, uint8_t *out, size_t out_len);
 
 /* Whether a message renders a source field, whole numbers V for Y x 10^D with marks: every present point within half
  * a step. Reads all its buffers. */
-Grib1Checked grib1_check(const uint8_t *message, size_t message_len, uint16_t number, const uint8_t *store,
+Grib1Checked grib1_check(const uint8_t *message, size_t message_len, uint16_t store_number, const uint8_t *store,
     size_t store_len, const int32_t *numbers, size_t numbers_len, const uint8_t *marks, size_t marks_len, int32_t d);
 
 /* Packs a source field with the least R and the least E for which N bits do, and writes its message. Buffers as
  * grib1_write; numbers of absent points are ignored. */
-Grib1Written grib1_pack(const uint8_t *pds, size_t pds_len, Grib1Form form, uint16_t number, const uint8_t *store,
+Grib1Written grib1_pack(const uint8_t *pds, size_t pds_len, Grib1Form form, uint16_t store_number, const uint8_t *store,
     size_t store_len, const int32_t *numbers, size_t numbers_len, const uint8_t *marks, size_t marks_len, int32_t d,
     uint8_t *out, size_t out_len);
 

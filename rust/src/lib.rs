@@ -83,7 +83,7 @@ pub struct Grid {
     pub nj: u16,
     pub la1: i32,
     pub lo1: i32,
-    pub flags: u8,
+    pub resolution: u8,
     pub la2: i32,
     pub lo2: i32,
     pub di: u16,
@@ -133,7 +133,7 @@ pub struct Header {
     pub d: i32,
     pub e: i32,
     pub r: u32,
-    pub flags: u8,
+    pub packing_flags: u8,
     pub bits: u8,
 }
 
@@ -165,7 +165,7 @@ pub struct Source<'a> {
 pub struct Form {
     pub grid: Option<Grid>,
     pub bitmap: Bitmap,
-    pub flags: u8,
+    pub packing_flags: u8,
     pub bits: u8,
 }
 
@@ -229,7 +229,7 @@ impl<'a> Message<'a> {
     pub fn data_number(&self, point: u32) -> Data {
         let d = face::data_number(self.octets, self.stored.number, self.stored.octets, point);
         match d.kind {
-            1 => Data::Present(d.number),
+            1 => Data::Present(d.data_number),
             2 => Data::Absent,
             _ => Data::Outside,
         }
@@ -252,7 +252,7 @@ impl<'a> Message<'a> {
     /// The form by which the writer makes this message again.
     pub fn form(&self) -> Form {
         let h = self.header;
-        Form { grid: self.gds.then_some(h.grid), bitmap: h.bitmap, flags: h.flags, bits: h.bits }
+        Form { grid: self.gds.then_some(h.grid), bitmap: h.bitmap, packing_flags: h.packing_flags, bits: h.bits }
     }
 }
 
@@ -310,7 +310,7 @@ fn header_of(h: &records::Header) -> Header {
             nj: g.nj,
             la1: g.la1,
             lo1: g.lo1,
-            flags: g.flags,
+            resolution: g.resolution,
             la2: g.la2,
             lo2: g.lo2,
             di: g.di,
@@ -319,14 +319,14 @@ fn header_of(h: &records::Header) -> Header {
         },
         bitmap: match h.bitmap {
             1 => Bitmap::Carried,
-            2 => Bitmap::Stored(h.number),
+            2 => Bitmap::Stored(h.bitmap_number),
             _ => Bitmap::Without,
         },
         time: Moment { year: h.year, month: h.month, day: h.day, hour: h.hour, minute: h.minute },
         d: h.d,
         e: h.e,
         r: h.r,
-        flags: h.flags,
+        packing_flags: h.packing_flags,
         bits: h.bits,
     }
 }
@@ -344,16 +344,16 @@ fn form_record(f: &Form) -> records::Form {
                 nj: g.nj,
                 di: g.di,
                 dj: g.dj,
-                flags: g.flags,
+                resolution: g.resolution,
                 scan: g.scan,
             },
         ),
-        None => (0, records::Grid { la1: 0, lo1: 0, la2: 0, lo2: 0, ni: 0, nj: 0, di: 0, dj: 0, flags: 0, scan: 0 }),
+        None => (0, records::Grid { la1: 0, lo1: 0, la2: 0, lo2: 0, ni: 0, nj: 0, di: 0, dj: 0, resolution: 0, scan: 0 }),
     };
-    let (bitmap, number) = match f.bitmap {
+    let (bitmap, bitmap_number) = match f.bitmap {
         Bitmap::Without => (0, 0),
         Bitmap::Carried => (1, 0),
         Bitmap::Stored(number) => (2, number),
     };
-    records::Form { given, bitmap, grid, number, flags: f.flags, bits: f.bits }
+    records::Form { given, bitmap, grid, bitmap_number, packing_flags: f.packing_flags, bits: f.bits }
 }

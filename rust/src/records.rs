@@ -19,7 +19,7 @@ pub struct Grid {
     pub nj: u16,
     pub di: u16,
     pub dj: u16,
-    pub flags: u8,
+    pub resolution: u8,
     pub scan: u8,
 }
 
@@ -38,13 +38,13 @@ pub struct Header {
     pub gds: Part,
     pub bms: Part,
     pub bds: Part,
-    pub number: u16,
+    pub bitmap_number: u16,
     pub year: u16,
     pub month: u8,
     pub day: u8,
     pub hour: u8,
     pub minute: u8,
-    pub flags: u8,
+    pub packing_flags: u8,
     pub bits: u8,
 }
 
@@ -75,7 +75,7 @@ pub struct Point {
 #[repr(C)]
 pub struct Data {
     pub kind: u32,
-    pub number: u32,
+    pub data_number: u32,
 }
 
 #[derive(Clone, Copy)]
@@ -97,7 +97,7 @@ pub struct Form {
     pub given: u32,
     pub bitmap: u32,
     pub grid: Grid,
-    pub number: u16,
-    pub flags: u8,
+    pub bitmap_number: u16,
+    pub packing_flags: u8,
     pub bits: u8,
 }

@@ -8,7 +8,7 @@ const SPECIMEN: &str = "4752494200005E01\
     00000E0F0000439C4000030B8000\
     37373737";
 
-const GRID: Grid = Grid { ni: 2, nj: 2, la1: 50000, lo1: -2000, flags: 128, la2: 51000, lo2: -1000, di: 1000, dj: 1000, scan: 64 };
+const GRID: Grid = Grid { ni: 2, nj: 2, la1: 50000, lo1: -2000, resolution: 128, la2: 51000, lo2: -1000, di: 1000, dj: 1000, scan: 64 };
 
 const HEADER: Header = Header {
     points: 4,
@@ -19,7 +19,7 @@ const HEADER: Header = Header {
     d: 1,
     e: 0,
     r: 0x439C4000,
-    flags: 0,
+    packing_flags: 0,
     bits: 3,
 };
 

@@ -52,19 +52,19 @@ static void is_specimen(int line, Grib1Header h)
     same_at(line, h.grid.nj, 2);
     same_at(line, h.grid.di, 1000);
     same_at(line, h.grid.dj, 1000);
-    same_at(line, h.grid.flags, 128);
+    same_at(line, h.grid.resolution, 128);
     same_at(line, h.grid.scan, GRIB1_SCAN_NORTH);
     part(line, h.pds, 0, 8, 28);
     part(line, h.gds, 0, 36, 32);
     part(line, h.bms, 0, 68, 8);
     part(line, h.bds, 0, 76, 14);
-    same_at(line, h.number, 0);
+    same_at(line, h.bitmap_number, 0);
     same_at(line, h.year, 1998);
     same_at(line, h.month, 3);
     same_at(line, h.day, 10);
     same_at(line, h.hour, 6);
     same_at(line, h.minute, 0);
-    same_at(line, h.flags, 0);
+    same_at(line, h.packing_flags, 0);
     same_at(line, h.bits, 3);
 }
 
@@ -76,12 +76,12 @@ static void refused(int line, Grib1Header h, uint32_t reply)
     same_at(line, h.d, 0);
     same_at(line, h.e, 0);
     same_at(line, h.grid.la1 | h.grid.lo1 | h.grid.la2 | h.grid.lo2, 0);
-    same_at(line, h.grid.ni + h.grid.nj + h.grid.di + h.grid.dj + h.grid.flags + h.grid.scan, 0);
+    same_at(line, h.grid.ni + h.grid.nj + h.grid.di + h.grid.dj + h.grid.resolution + h.grid.scan, 0);
     part(line, h.pds, 0, 0, 0);
     part(line, h.gds, 0, 0, 0);
     part(line, h.bms, 0, 0, 0);
     part(line, h.bds, 0, 0, 0);
-    same_at(line, h.number + h.year + h.month + h.day + h.hour + h.minute + h.flags + h.bits, 0);
+    same_at(line, h.bitmap_number + h.year + h.month + h.day + h.hour + h.minute + h.packing_flags + h.bits, 0);
 }
 
 static void reading(void)
@@ -144,7 +144,7 @@ static void points(void)
         same(p.row, row[k]);
         same(p.column, column[k]);
         same(d.kind, kind[k]);
-        same(d.number, number[k]);
+        same(d.data_number, number[k]);
         if (k < 4) {
             Grib1Point back = grib1_point(2, 2, 64, p.row, p.column);
             same(back.on, 1);
@@ -172,8 +172,8 @@ static void writing(void)
     form.given = 1;
     form.bitmap = h.bitmap;
     form.grid = h.grid;
-    form.number = h.number;
-    form.flags = h.flags;
+    form.bitmap_number = h.bitmap_number;
+    form.packing_flags = h.packing_flags;
     form.bits = h.bits;
 
     memset(out, 0xAA, sizeof out);
@@ -211,18 +211,18 @@ static void writing(void)
 
     /* a stored bitmap of number 5, and the same message without it */
     form.bitmap = GRIB1_STORED;
-    form.number = 5;
+    form.bitmap_number = 5;
     w = grib1_write(pds, 28, form, h.e, h.r, 5, store, 1, values, 4, marks, 4, out, 96);
     same(w.reply, GRIB1_ACCEPTED);
     same(w.len, 92);
     part(__LINE__, grib1_bitmap(out, 92, 5, store, 1), 1, 0, 1);
     h = grib1_header(out, 92, 5, store, 1);
     same(h.bitmap, GRIB1_STORED);
-    same(h.number, 5);
+    same(h.bitmap_number, 5);
     same(h.present, 3);
     refused(__LINE__, grib1_header(out, 92, 0, none, 0), GRIB1_BITMAP);
     refused(__LINE__, grib1_header(out, 92, 6, store, 1), GRIB1_BITMAP);
-    same(grib1_data_number(out, 92, 5, store, 1, 3).number, 2);
+    same(grib1_data_number(out, 92, 5, store, 1, 3).data_number, 2);
 }
 
 int main(void)

@@ -71,7 +71,7 @@ static void tell_grid(Grib1Grid g)
     tell(g.nj);
     tell(g.di);
     tell(g.dj);
-    tell(g.flags);
+    tell(g.resolution);
     tell(g.scan);
 }
 
@@ -96,13 +96,13 @@ static void tell_header(Grib1Header h)
     tell_part(h.gds);
     tell_part(h.bms);
     tell_part(h.bds);
-    tell(h.number);
+    tell(h.bitmap_number);
     tell(h.year);
     tell(h.month);
     tell(h.day);
     tell(h.hour);
     tell(h.minute);
-    tell(h.flags);
+    tell(h.packing_flags);
     tell(h.bits);
 }
 
@@ -125,10 +125,10 @@ static Grib1Form form(void)
     f.grid.nj = (uint16_t)word();
     f.grid.di = (uint16_t)word();
     f.grid.dj = (uint16_t)word();
-    f.grid.flags = (uint8_t)word();
+    f.grid.resolution = (uint8_t)word();
     f.grid.scan = (uint8_t)word();
-    f.number = (uint16_t)word();
-    f.flags = (uint8_t)word();
+    f.bitmap_number = (uint16_t)word();
+    f.packing_flags = (uint8_t)word();
     f.bits = (uint8_t)word();
     return f;
 }
@@ -169,7 +169,7 @@ static void about_message(uint32_t function)
     case 5:
         data = grib1_data_number(m, m_len, number, s, s_len, word());
         tell(data.kind);
-        tell(data.number);
+        tell(data.data_number);
         break;
     default:
         numbers = list(4, 0, &a_len);

@@ -6,5 +6,5 @@ use Rattle.points.specs.Told.{told}
 use Rattle.point_records.specs.declared.{DataRecord.DataRecord}
 use Rattle.point_records.specs.Records.{dataRecord}
 
-pub data-present : (n : Numbered) (d : DataPoint) (k : ℕ) → n ≡ Present d → k ≡ d .0 → _≡_ {A = DataRecord} (record { kind = 1; number = k }) (dataRecord (told n))
+pub data-present : (n : Numbered) (d : DataPoint) (k : ℕ) → n ≡ Present d → k ≡ d .0 → _≡_ {A = DataRecord} (record { kind = 1; «data_number» = k }) (dataRecord (told n))
 data-present n d k e q = rw (e, q)

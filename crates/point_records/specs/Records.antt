@@ -10,6 +10,6 @@ forceRecord f = partBy (f .stored) (f .part)
 
 -- what is said of a grid point: 1 and its data number, 2 where it is absent, 0 where there is no such point
 abbrev pub dataRecord : Numbering → DataRecord
-dataRecord outside = record { kind = 0; number = 0 }
-dataRecord (numbered k) = record { kind = 1; number = k }
-dataRecord absent = record { kind = 2; number = 0 }
+dataRecord outside = record { kind = 0; «data_number» = 0 }
+dataRecord (numbered k) = record { kind = 1; «data_number» = k }
+dataRecord absent = record { kind = 2; «data_number» = 0 }

@@ -10,7 +10,7 @@ use records::PartRecord;
 #[repr(C)]
 pub struct DataRecord {
     pub kind: u32,
-    pub number: u32,
+    pub data_number: u32,
 }
 
 pub fn force_record(f: Force) -> PartRecord
@@ -33,9 +33,15 @@ pub fn data_record(n: Numbered) -> DataRecord
     match n {
         Numbered::Present(k) => DataRecord {
             kind: 1,
-            number: k.number(),
+            data_number: k.number(),
         },
-        Numbered::Absent => DataRecord { kind: 2, number: 0 },
-        Numbered::Outside => DataRecord { kind: 0, number: 0 },
+        Numbered::Absent => DataRecord {
+            kind: 2,
+            data_number: 0,
+        },
+        Numbered::Outside => DataRecord {
+            kind: 0,
+            data_number: 0,
+        },
     }
 }

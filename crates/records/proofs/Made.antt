@@ -30,13 +30,13 @@ pub header-made : (h : Header) (d e : ℤ) (kind : ℕ) (g : GridRecord) (pds gd
       gds = gds;
       bms = bms;
       bds = bds;
-      number = number;
+      «bitmap_number» = number;
       year = h .time .year;
       month = h .time .month;
       day = h .time .day;
       hour = h .time .hour;
       minute = h .time .minute;
-      flags = h .packing .flags;
+      «packing_flags» = h .packing .flags;
       bits = h .packing .bits;
     })
     (headerRecord h)

@@ -19,7 +19,7 @@ use Rattle.records.specs.Records.{bitmapKind, bitmapNumber, gridRecord}
 abbrev pub gridBack : GridRecord → Grid
 gridBack g = record {
   shape = record { ni = g .ni; nj = g .nj; scan = g .scan };
-  geometry = record { la1 = plain (g .la1); lo1 = plain (g .lo1); flags = g .flags; la2 = plain (g .la2); lo2 = plain (g .lo2); di = g .di; dj = g .dj };
+  geometry = record { la1 = plain (g .la1); lo1 = plain (g .lo1); flags = g .resolution; la2 = plain (g .la2); lo2 = plain (g .lo2); di = g .di; dj = g .dj };
 }
 
 -- 0 no grid, 1 the one in the record, any other number a grid of zeros, which 9 refuses
@@ -31,7 +31,7 @@ unfoldable pub bitmapBy : ℕ → ℕ → Bitmap
 bitmapBy kind number = cond (eqb kind 0) Without (cond (eqb kind 1) Carried (cond (eqb kind 2) (Stored number) (Stored 0)))
 
 abbrev pub formBy : FormRecord → Form
-formBy f = record { grid = gridBy (f .given) (f .grid); bitmap = bitmapBy (f .bitmap) (f .number); packing = record { flags = f .flags; bits = f .bits } }
+formBy f = record { grid = gridBy (f .given) (f .grid); bitmap = bitmapBy (f .bitmap) (f .«bitmap_number»); packing = record { flags = f .«packing_flags»; bits = f .bits } }
 
 -- E and R
 abbrev pub scaleBy : ℤ → ℕ → Scale

@@ -35,7 +35,7 @@ gridRecord g =
       nj = g .shape .nj;
       di = a .di;
       dj = a .dj;
-      flags = a .flags;
+      resolution = a .flags;
       scan = g .shape .scan;
     }
 
@@ -53,13 +53,13 @@ headerRecord h = record {
   gds = partRecord (h .places .gds);
   bms = partRecord (h .places .bms);
   bds = partRecord (h .places .bds);
-  number = bitmapNumber (h .bitmap);
+  «bitmap_number» = bitmapNumber (h .bitmap);
   year = h .time .year;
   month = h .time .month;
   day = h .time .day;
   hour = h .time .hour;
   minute = h .time .minute;
-  flags = h .packing .flags;
+  «packing_flags» = h .packing .flags;
   bits = h .packing .bits;
 }
 

@@ -18,8 +18,8 @@ pub struct FormRecord {
     pub given: u32,
     pub bitmap: u32,
     pub grid: GridRecord,
-    pub number: u16,
-    pub flags: u8,
+    pub bitmap_number: u16,
+    pub packing_flags: u8,
     pub bits: u8,
 }
 
@@ -35,7 +35,7 @@ fn grid_back(g: GridRecord) -> Grid
         geometry: Geometry {
             la1: plain(g.la1),
             lo1: plain(g.lo1),
-            flags: g.flags,
+            flags: g.resolution,
             la2: plain(g.la2),
             lo2: plain(g.lo2),
             di: g.di,
@@ -77,9 +77,9 @@ pub fn form_by(f: FormRecord) -> Form
     let g = f.grid;
     Form {
         grid: grid_by(f.given, g),
-        bitmap: bitmap_by(f.bitmap, f.number),
+        bitmap: bitmap_by(f.bitmap, f.bitmap_number),
         packing: Packing {
-            flags: f.flags,
+            flags: f.packing_flags,
             bits: f.bits,
         },
     }

@@ -37,7 +37,7 @@ pub struct GridRecord {
     pub nj: u16,
     pub di: u16,
     pub dj: u16,
-    pub flags: u8,
+    pub resolution: u8,
     pub scan: u8,
 }
 
@@ -55,13 +55,13 @@ pub struct HeaderRecord {
     pub gds: PartRecord,
     pub bms: PartRecord,
     pub bds: PartRecord,
-    pub number: u16,
+    pub bitmap_number: u16,
     pub year: u16,
     pub month: u8,
     pub day: u8,
     pub hour: u8,
     pub minute: u8,
-    pub flags: u8,
+    pub packing_flags: u8,
     pub bits: u8,
 }
 
@@ -145,7 +145,7 @@ fn grid_record(g: Grid) -> GridRecord
         nj: g.shape.nj,
         di: a.di,
         dj: a.dj,
-        flags: a.flags,
+        resolution: a.flags,
         scan: g.shape.scan,
     }
 }
@@ -169,13 +169,13 @@ pub fn header_record(h: Header) -> HeaderRecord
         gds: part_record(places.gds),
         bms: part_record(places.bms),
         bds: part_record(places.bds),
-        number: bitmap_number(bitmap),
+        bitmap_number: bitmap_number(bitmap),
         year: h.time.year,
         month: h.time.month,
         day: h.time.day,
         hour: h.time.hour,
         minute: h.time.minute,
-        flags: h.packing.flags,
+        packing_flags: h.packing.flags,
         bits: h.packing.bits,
     }
 }

@@ -16,7 +16,7 @@ returns c =
     let lo2 = kept (g .lo2) _ (c .plain4 .ensures) (record { sfits = c .before .struct-told4 .given .1 .1 .1 .0 .1 }) in
     λ i. record {
       shape = record { ni = g .ni; nj = g .nj; scan = g .scan };
-      geometry = record { la1 = la1 i; lo1 = lo1 i; flags = g .flags; la2 = la2 i; lo2 = lo2 i; di = g .di; dj = g .dj };
+      geometry = record { la1 = la1 i; lo1 = lo1 i; flags = g .resolution; la2 = la2 i; lo2 = lo2 i; di = g .di; dj = g .dj };
     }
 
 pub grid-back-spec : {M : Type 1} → statement M
