@@ -38,7 +38,7 @@ static int draw(size_t len)
         (unsigned)h.minute, (unsigned)h.grid.ni, (unsigned)h.grid.nj, (unsigned)h.present, (unsigned)h.points);
     for (row = 0; row < h.grid.nj; row++) {
         for (column = 0; column < h.grid.ni; column++) {
-            Grib1Point at = grib1_point(h.grid.ni, h.grid.nj, h.grid.scan, row, column);
+            Grib1Point at = grib1_point(h.grid, row, column);
             if (marks[at.point])
                 printf(" %9.3f", (shown.reference + values[at.point] * shown.step) * ten(-h.d) / ten(h.d));
             else

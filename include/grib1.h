@@ -222,9 +222,10 @@ Grib1Part grib1_bitmap(const uint8_t *message, size_t message_len, uint16_t stor
 Grib1Display grib1_display(const uint8_t *message, size_t message_len, uint16_t store_number, const uint8_t *store,
     size_t store_len);
 
-/* Where a grid point lies on the chart of a grid (ni, nj and scan of a Grib1Grid), and which point lies at a place. */
-Grib1Place grib1_place(uint16_t ni, uint16_t nj, uint8_t scan, uint32_t point);
-Grib1Point grib1_point(uint16_t ni, uint16_t nj, uint8_t scan, uint32_t row, uint32_t column);
+/* Where a grid point lies on the chart of a grid, and which point lies at a place. Of the grid only ni, nj and scan count,
+ * and any numbers will do. */
+Grib1Place grib1_place(Grib1Grid grid, uint32_t point);
+Grib1Point grib1_point(Grib1Grid grid, uint32_t row, uint32_t column);
 
 /* The data number of a grid point of a message. Reads message and store; takes a whole header's time. */
 Grib1Data grib1_data_number(const uint8_t *message, size_t message_len, uint16_t store_number, const uint8_t *store,

@@ -1,7 +1,7 @@
 // The archive's functions by way of a program that is linked with it (tests/rust_face/driver.c) and that the file named by GRIB1_DRIVER runs,
 // one process for each call. Records and elements lie in memory alike on both sides: the fields have C's places, low octet first, and no
 // pointer crosses.
-use crate::records::{Checked, Data, Display, Form, Header, Part, Place, Point, Written};
+use crate::records::{Checked, Data, Display, Form, Grid, Header, Part, Place, Point, Written};
 use std::env;
 use std::io::Write;
 use std::mem::{size_of, size_of_val};
@@ -32,8 +32,9 @@ impl Call {
         call
     }
 
-    fn form(mut self, form: Form) -> Call {
-        self.0.extend(octets_of(&[form]));
+    // a form or a grid
+    fn record_in<T: Copy>(mut self, record: T) -> Call {
+        self.0.extend(octets_of(&[record]));
         self
     }
 
@@ -103,17 +104,17 @@ pub fn check(m: &[u8], number: u16, s: &[u8], numbers: &[i32], marks: &[u8], d: 
     Call::about(6, m, number, s).list(numbers).list(marks).number(d as u32).record()
 }
 
-pub fn place(ni: u16, nj: u16, scan: u8, point: u32) -> Place {
-    Call::new(7).number(ni.into()).number(nj.into()).number(scan.into()).number(point).record()
+pub fn place(grid: Grid, point: u32) -> Place {
+    Call::new(7).record_in(grid).number(point).record()
 }
 
-pub fn point(ni: u16, nj: u16, scan: u8, row: u32, column: u32) -> Point {
-    Call::new(8).number(ni.into()).number(nj.into()).number(scan.into()).number(row).number(column).record()
+pub fn point(grid: Grid, row: u32, column: u32) -> Point {
+    Call::new(8).record_in(grid).number(row).number(column).record()
 }
 
 #[allow(clippy::too_many_arguments)]
 pub fn write(pds: &[u8], form: Form, e: i32, r: u32, number: u16, s: &[u8], values: &[u32], marks: &[u8], out: &mut [u8]) -> Written {
-    let call = Call::new(9).list(pds).form(form).number(e as u32).number(r).number(number.into()).list(s);
+    let call = Call::new(9).list(pds).record_in(form).number(e as u32).number(r).number(number.into()).list(s);
     let mut answer = call.list(values).list(marks).list(out).answer();
     let written = answer.record();
     answer.list(out);
@@ -122,7 +123,7 @@ pub fn write(pds: &[u8], form: Form, e: i32, r: u32, number: u16, s: &[u8], valu
 
 #[allow(clippy::too_many_arguments)]
 pub fn pack(pds: &[u8], form: Form, number: u16, s: &[u8], numbers: &[i32], marks: &[u8], d: i32, out: &mut [u8]) -> Written {
-    let call = Call::new(10).list(pds).form(form).number(number.into()).list(s);
+    let call = Call::new(10).list(pds).record_in(form).number(number.into()).list(s);
     let mut answer = call.list(numbers).list(marks).number(d as u32).list(out).answer();
     let written = answer.record();
     answer.list(out);

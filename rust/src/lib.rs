@@ -101,13 +101,13 @@ pub struct Place {
 impl Grid {
     /// Where a grid point lies on the chart; None where the grid has no such point.
     pub fn place(&self, point: u32) -> Option<Place> {
-        let p = face::place(self.ni, self.nj, self.scan, point);
+        let p = face::place(grid_record(self), point);
         (p.on == 1).then_some(Place { row: p.row, column: p.column })
     }
 
     /// The grid point that lies at a place; None where the chart has no such place.
     pub fn point(&self, place: Place) -> Option<u32> {
-        let p = face::point(self.ni, self.nj, self.scan, place.row, place.column);
+        let p = face::point(grid_record(self), place.row, place.column);
         (p.on == 1).then_some(p.point)
     }
 }
@@ -331,23 +331,24 @@ fn header_of(h: &records::Header) -> Header {
     }
 }
 
+fn grid_record(g: &Grid) -> records::Grid {
+    records::Grid {
+        la1: g.la1,
+        lo1: g.lo1,
+        la2: g.la2,
+        lo2: g.lo2,
+        ni: g.ni,
+        nj: g.nj,
+        di: g.di,
+        dj: g.dj,
+        resolution: g.resolution,
+        scan: g.scan,
+    }
+}
+
 fn form_record(f: &Form) -> records::Form {
-    let (given, grid) = match f.grid {
-        Some(g) => (
-            1,
-            records::Grid {
-                la1: g.la1,
-                lo1: g.lo1,
-                la2: g.la2,
-                lo2: g.lo2,
-                ni: g.ni,
-                nj: g.nj,
-                di: g.di,
-                dj: g.dj,
-                resolution: g.resolution,
-                scan: g.scan,
-            },
-        ),
+    let (given, grid) = match &f.grid {
+        Some(g) => (1, grid_record(g)),
         None => (0, records::Grid { la1: 0, lo1: 0, la2: 0, lo2: 0, ni: 0, nj: 0, di: 0, dj: 0, resolution: 0, scan: 0 }),
     };
     let (bitmap, bitmap_number) = match f.bitmap {

@@ -1,6 +1,6 @@
 // The archive's functions, each with its slices taken apart. A slice of Rust is what the archive asks for: a pointer that is not null, to that
 // many elements, and what is lent as `&mut` overlaps nothing else.
-use crate::records::{Checked, Data, Display, Form, Header, Part, Place, Point, Written};
+use crate::records::{Checked, Data, Display, Form, Grid, Header, Part, Place, Point, Written};
 
 extern "C" {
     fn grib1_header(m: *const u8, m_len: usize, number: u16, s: *const u8, s_len: usize) -> Header;
@@ -10,8 +10,8 @@ extern "C" {
     fn grib1_section(m: *const u8, m_len: usize, number: u16, s: *const u8, s_len: usize, section: u32) -> Part;
     fn grib1_bitmap(m: *const u8, m_len: usize, number: u16, s: *const u8, s_len: usize) -> Part;
     fn grib1_display(m: *const u8, m_len: usize, number: u16, s: *const u8, s_len: usize) -> Display;
-    fn grib1_place(ni: u16, nj: u16, scan: u8, point: u32) -> Place;
-    fn grib1_point(ni: u16, nj: u16, scan: u8, row: u32, column: u32) -> Point;
+    fn grib1_place(grid: Grid, point: u32) -> Place;
+    fn grib1_point(grid: Grid, row: u32, column: u32) -> Point;
     fn grib1_data_number(m: *const u8, m_len: usize, number: u16, s: *const u8, s_len: usize, point: u32) -> Data;
     fn grib1_write(
         pds: *const u8, pds_len: usize, form: Form, e: i32, r: u32, number: u16, s: *const u8, s_len: usize, values: *const u32, values_len: usize,
@@ -47,12 +47,12 @@ pub fn display(m: &[u8], number: u16, s: &[u8]) -> Display {
     unsafe { grib1_display(m.as_ptr(), m.len(), number, s.as_ptr(), s.len()) }
 }
 
-pub fn place(ni: u16, nj: u16, scan: u8, point: u32) -> Place {
-    unsafe { grib1_place(ni, nj, scan, point) }
+pub fn place(grid: Grid, point: u32) -> Place {
+    unsafe { grib1_place(grid, point) }
 }
 
-pub fn point(ni: u16, nj: u16, scan: u8, row: u32, column: u32) -> Point {
-    unsafe { grib1_point(ni, nj, scan, row, column) }
+pub fn point(grid: Grid, row: u32, column: u32) -> Point {
+    unsafe { grib1_point(grid, row, column) }
 }
 
 pub fn data_number(m: &[u8], number: u16, s: &[u8], point: u32) -> Data {

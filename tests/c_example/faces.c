@@ -135,10 +135,11 @@ static void points(void)
     static const uint32_t column[5] = {0, 1, 0, 1, 0};
     static const uint32_t kind[5] = {GRIB1_PRESENT, GRIB1_PRESENT, GRIB1_ABSENT, GRIB1_PRESENT, GRIB1_OUTSIDE};
     static const uint32_t number[5] = {0, 1, 0, 2, 0};
+    Grib1Grid grid = grib1_header(specimen, 94, 0, none, 0).grid;
     uint32_t k;
 
     for (k = 0; k < 5; k++) {
-        Grib1Place p = grib1_place(2, 2, 64, k);
+        Grib1Place p = grib1_place(grid, k);
         Grib1Data d = grib1_data_number(specimen, 94, 0, none, 0, k);
         same(p.on, k < 4);
         same(p.row, row[k]);
@@ -146,13 +147,13 @@ static void points(void)
         same(d.kind, kind[k]);
         same(d.data_number, number[k]);
         if (k < 4) {
-            Grib1Point back = grib1_point(2, 2, 64, p.row, p.column);
+            Grib1Point back = grib1_point(grid, p.row, p.column);
             same(back.on, 1);
             same(back.point, k);
         }
     }
-    same(grib1_point(2, 2, 64, 2, 0).on, 0);
-    same(grib1_point(2, 2, 64, 0, 2).point, 0);
+    same(grib1_point(grid, 2, 0).on, 0);
+    same(grib1_point(grid, 0, 2).point, 0);
     same(grib1_data_number(specimen, 93, 0, none, 0, 0).kind, GRIB1_OUTSIDE);
 }
 

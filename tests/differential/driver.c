@@ -1,7 +1,7 @@
 /* Calls of the codec for a program that cannot link the archive, one after another.
  *
  * Standard input: calls, each a count of octets and so many octets: the number of the function, then its arguments in the order of include/grib1.h, a
- * number as four octets, a form field by field, a buffer as its count of elements and their octets. Numbers are little endian.
+ * number as four octets, a form or a grid field by field, a buffer as its count of elements and their octets. Numbers are little endian.
  * Standard output: answers, each a count of octets and so many octets: the record field by field, four octets each and eight for a double; each buffer
  * that may be written, whole; and last 1 where nothing else has changed: the buffers that are only read, and what stands behind every buffer, else 0. */
 #include <stdio.h>
@@ -112,21 +112,28 @@ static void tell_written(Grib1Written w)
     tell(w.len);
 }
 
+static Grib1Grid grid(void)
+{
+    Grib1Grid g;
+    g.la1 = (int32_t)word();
+    g.lo1 = (int32_t)word();
+    g.la2 = (int32_t)word();
+    g.lo2 = (int32_t)word();
+    g.ni = (uint16_t)word();
+    g.nj = (uint16_t)word();
+    g.di = (uint16_t)word();
+    g.dj = (uint16_t)word();
+    g.resolution = (uint8_t)word();
+    g.scan = (uint8_t)word();
+    return g;
+}
+
 static Grib1Form form(void)
 {
     Grib1Form f;
     f.given = word();
     f.bitmap = word();
-    f.grid.la1 = (int32_t)word();
-    f.grid.lo1 = (int32_t)word();
-    f.grid.la2 = (int32_t)word();
-    f.grid.lo2 = (int32_t)word();
-    f.grid.ni = (uint16_t)word();
-    f.grid.nj = (uint16_t)word();
-    f.grid.di = (uint16_t)word();
-    f.grid.dj = (uint16_t)word();
-    f.grid.resolution = (uint8_t)word();
-    f.grid.scan = (uint8_t)word();
+    f.grid = grid();
     f.bitmap_number = (uint16_t)word();
     f.packing_flags = (uint8_t)word();
     f.bits = (uint8_t)word();
@@ -181,18 +188,16 @@ static void about_message(uint32_t function)
 
 static void about_chart(uint32_t function)
 {
-    uint16_t ni = (uint16_t)word();
-    uint16_t nj = (uint16_t)word();
-    uint8_t scan = (uint8_t)word();
+    Grib1Grid g = grid();
     uint32_t a = word();
 
     if (function == 7) {
-        Grib1Place place = grib1_place(ni, nj, scan, a);
+        Grib1Place place = grib1_place(g, a);
         tell(place.on);
         tell(place.row);
         tell(place.column);
     } else {
-        Grib1Point point = grib1_point(ni, nj, scan, a, word());
+        Grib1Point point = grib1_point(g, a, word());
         tell(point.on);
         tell(point.point);
     }

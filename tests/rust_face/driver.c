@@ -1,6 +1,6 @@
 /* One call of the codec for a program that cannot link the archive: rust/src/driver.rs, on another processor than x86-64.
  *
- * Standard input: the number of the function, then its arguments in the order of include/grib1.h, a number as four octets, a form as its octets, a
+ * Standard input: the number of the function, then its arguments in the order of include/grib1.h, a number as four octets, a form or a grid as its octets, a
  * buffer as its count of elements and their octets. Standard output: the record's octets, then those of each buffer that is written. */
 #include <stdio.h>
 #include <string.h>
@@ -40,6 +40,14 @@ static Grib1Form form(void)
     memcpy(&f, asked + at, sizeof f);
     at += sizeof f;
     return f;
+}
+
+static Grib1Grid grid(void)
+{
+    Grib1Grid g;
+    memcpy(&g, asked + at, sizeof g);
+    at += sizeof g;
+    return g;
 }
 
 static void answer(const void *from, size_t octets)
@@ -102,18 +110,16 @@ static void about_message(uint32_t function)
 
 static void on_chart(uint32_t function)
 {
-    uint16_t ni = (uint16_t)word();
-    uint16_t nj = (uint16_t)word();
-    uint8_t scan = (uint8_t)word();
+    Grib1Grid g = grid();
     uint32_t first = word();
     Grib1Place place;
     Grib1Point point;
 
     if (function == 7) {
-        place = grib1_place(ni, nj, scan, first);
+        place = grib1_place(g, first);
         answer(&place, sizeof place);
     } else {
-        point = grib1_point(ni, nj, scan, first, word());
+        point = grib1_point(g, first, word());
         answer(&point, sizeof point);
     }
 }

@@ -8,7 +8,7 @@ ghost use Rattle.rules.specs.Writing.{writeOf, outputAfter};
 ghost use Rattle.rules.specs.Checking.{checkOf};
 ghost use Rattle.rules.specs.Packing.{packOf, packedAfter};
 ghost use Rattle.sections.specs.Given.{parts as theParts};
-ghost use Rattle.records.specs.Forms.{formBy, scaleBy};
+ghost use Rattle.records.specs.Forms.{gridBack, formBy, scaleBy};
 ghost use Rattle.point_records.specs.Records.{forceRecord, dataRecord};
 ghost use Rattle.records.specs.Records.{partRecord, headerRecord, placeRecord, pointRecord, displayRecord, writtenRecord, checkRecord};
 use point_records::DataRecord;
@@ -17,6 +17,7 @@ use point_records::force_record;
 use records::CheckRecord;
 use records::DisplayRecord;
 use records::FormRecord;
+use records::GridRecord;
 use records::HeaderRecord;
 use records::PartRecord;
 use records::PlaceRecord;
@@ -88,19 +89,25 @@ pub extern "C" fn grib1_display(message: &[u8], number: u16, store: &[u8]) -> Di
     display_record(display::display(message, number, store))
 }
 
-// Where a grid point lies on the chart.
+// Where a grid point lies on the chart of a grid. Of the grid the shape alone counts, and any will do.
 #[no_mangle]
-pub extern "C" fn grib1_place(ni: u16, nj: u16, scan: u8, point: u32) -> PlaceRecord
-    ensures { λ r. ⌜ r ≡ placeRecord (charted (record { ni = ni; nj = nj; scan = scan }) (record { 0 = point })) ⌝ }
+pub extern "C" fn grib1_place(grid: GridRecord, point: u32) -> PlaceRecord
+    ensures { λ r. ⌜ r ≡ placeRecord (charted (gridBack grid .shape) (record { 0 = point })) ⌝ }
 {
+    let ni = grid.ni;
+    let nj = grid.nj;
+    let scan = grid.scan;
     place_record(chart::spot_of(Shape { ni, nj, scan }, GridPoint(point)))
 }
 
-// The grid point that lies at a place of the chart.
+// The grid point that lies at a place of that chart.
 #[no_mangle]
-pub extern "C" fn grib1_point(ni: u16, nj: u16, scan: u8, row: u32, column: u32) -> PointRecord
-    ensures { λ r. ⌜ r ≡ pointRecord (pointed (record { ni = ni; nj = nj; scan = scan }) (record { row = row; column = column })) ⌝ }
+pub extern "C" fn grib1_point(grid: GridRecord, row: u32, column: u32) -> PointRecord
+    ensures { λ r. ⌜ r ≡ pointRecord (pointed (gridBack grid .shape) (record { row = row; column = column })) ⌝ }
 {
+    let ni = grid.ni;
+    let nj = grid.nj;
+    let scan = grid.scan;
     point_record(chart::point_at(Shape { ni, nj, scan }, Spot { row, column }))
 }
 

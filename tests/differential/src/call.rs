@@ -195,30 +195,30 @@ pub fn data_number(message: &[u8], lent: &Lent, point: u32) -> Call {
     }
 }
 
-pub fn place(ni: u16, nj: u16, scan: u8, point: u32) -> Call {
-    let told = match rules::place_of(ni, nj, scan, point) {
+pub fn place(g: &Grid, point: u32) -> Call {
+    let told = match rules::place_of(g.ni, g.nj, g.scan, point) {
         None => [0, 0, 0],
         Some((row, column)) => [1, row, column],
     };
     let mut asked = Octets::default();
-    asked.words(&[PLACE, ni as u32, nj as u32, scan as u32, point]);
+    asked.word(PLACE).grid(g).word(point);
     Call {
-        what: format!("place of {point} on {ni} by {nj}, scan {scan}"),
+        what: format!("place of {point} on {} by {}, scan {}", g.ni, g.nj, g.scan),
         asked: asked.0,
         expected: Octets::default().words(&told).kept(),
         reply: None,
     }
 }
 
-pub fn point(ni: u16, nj: u16, scan: u8, row: u32, column: u32) -> Call {
-    let told = match rules::point_at(ni, nj, scan, row, column) {
+pub fn point(g: &Grid, row: u32, column: u32) -> Call {
+    let told = match rules::point_at(g.ni, g.nj, g.scan, row, column) {
         None => [0, 0],
         Some(point) => [1, point],
     };
     let mut asked = Octets::default();
-    asked.words(&[POINT, ni as u32, nj as u32, scan as u32, row, column]);
+    asked.word(POINT).grid(g).words(&[row, column]);
     Call {
-        what: format!("point at {row}, {column} on {ni} by {nj}, scan {scan}"),
+        what: format!("point at {row}, {column} on {} by {}, scan {}", g.ni, g.nj, g.scan),
         asked: asked.0,
         expected: Octets::default().words(&told).kept(),
         reply: None,

@@ -130,7 +130,7 @@ pub fn calls(seed: u64, index: usize) -> Vec<Call> {
     calls.push(call::display(&message, &lent));
     for point in [0, n / 2, n - 1, n] {
         calls.push(call::data_number(&message, &lent, point as u32));
-        calls.push(call::place(grid.ni, grid.nj, grid.scan, point as u32));
+        calls.push(call::place(&grid, point as u32));
     }
 
     // a source packed and checked
