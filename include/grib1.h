@@ -174,7 +174,7 @@ typedef struct {
     uint32_t data_number;      /* where it is present: how many present points stand before it */
 } Grib1Data;
 
-/* What writing answers. */
+/* What writing, and how much will be written, answer. */
 typedef struct {
     uint32_t reply;            /* enum grib1_reply: 0, 5 to 7, 9 to 11, 13, 14, and 15, 18, 19 of grib1_pack */
     uint32_t len;              /* octets of the message */
@@ -185,8 +185,8 @@ typedef struct {
     uint32_t reply;            /* enum grib1_reply: 0 where the message renders the source, else 1 to 12, 15 to 18 */
 } Grib1Checked;
 
-/* What the caller of grib1_write and grib1_pack chooses. Every number means something: a kind with no name is refused
- * where its part is judged. */
+/* What the caller of grib1_write, grib1_pack and grib1_length chooses. Every number means something: a kind with no name
+ * is refused where its part is judged. */
 typedef struct {
     uint32_t given;            /* 0: no GDS, PDS octet 7 picks the grid; 1: grid is written as the GDS; any other
                                   number is refused by 9 */
@@ -231,8 +231,16 @@ Grib1Point grib1_point(Grib1Grid grid, uint32_t row, uint32_t column);
 Grib1Data grib1_data_number(const uint8_t *message, size_t message_len, uint16_t store_number, const uint8_t *store,
     size_t store_len, uint32_t point);
 
+/* How many octets the message of a PDS, a form and n marks takes, for a caller who lends no more than these: whatever E, R
+ * and the values or source numbers are, a grib1_write or grib1_pack of the same parts that accepts them answers this len.
+ * A reply other than 0, one of 5 to 7, 9 to 11 and 13, says that they will refuse these parts whatever comes with them.
+ * Reads pds, store and marks. */
+Grib1Written grib1_length(const uint8_t *pds, size_t pds_len, Grib1Form form, uint16_t store_number,
+    const uint8_t *store, size_t store_len, const uint8_t *marks, size_t marks_len);
+
 /* Writes the message of a PDS, a form, E and R's four octets, and n values and n marks. Reads pds, store, values and
- * marks; fills the message's octets of out and leaves later ones. GRIB1_WRITTEN_MOST octets of out hold any message. */
+ * marks; fills the message's octets of out and leaves later ones. GRIB1_WRITTEN_MOST octets of out hold any message,
+ * and grib1_length tells what this one takes. */
 Grib1Written grib1_write(const uint8_t *pds, size_t pds_len, Grib1Form form, int32_t e, uint32_t r,
     uint16_t store_number, const uint8_t *store, size_t store_len, const uint32_t *values, size_t values_len,
     const uint8_t *marks, size_t marks_len, uint8_t *out, size_t out_len);

@@ -129,3 +129,7 @@ pub fn pack(pds: &[u8], form: Form, number: u16, s: &[u8], numbers: &[i32], mark
     answer.list(out);
     written
 }
+
+pub fn length(pds: &[u8], form: Form, number: u16, s: &[u8], marks: &[u8]) -> Written {
+    Call::new(11).list(pds).record_in(form).number(number.into()).list(s).list(marks).record()
+}

@@ -285,7 +285,15 @@ impl<'b> Field<'b> {
     }
 }
 
-/// Writes the message of the parts given to the front of `out`, and hands out its octets.
+/// How many octets the message of a PDS, a form and n marks takes, for a caller who lends no more than these: whatever E, R and the values or source
+/// numbers are, a `write` or `pack` of the same parts that accepts them hands out so many. A refusal is one that they meet whatever these are.
+pub fn length(pds: &[u8], form: &Form, stored: Stored, marks: &[u8]) -> Result<usize, Refusal> {
+    let w = face::length(pds, form_record(form), stored.number, stored.octets, marks);
+    Refusal::unless_accepted(w.reply)?;
+    Ok(w.len as usize)
+}
+
+/// Writes the message of the parts given to the front of `out`, and hands out its octets. `limits::WRITTEN_MOST` octets hold any message.
 pub fn write<'o>(parts: &Parts, out: &'o mut [u8]) -> Result<&'o [u8], Refusal> {
     let p = parts;
     let w = face::write(p.pds, form_record(&p.form), p.e, p.r, p.stored.number, p.stored.octets, p.values, p.marks, out);

@@ -13,6 +13,7 @@ extern "C" {
     fn grib1_place(grid: Grid, point: u32) -> Place;
     fn grib1_point(grid: Grid, row: u32, column: u32) -> Point;
     fn grib1_data_number(m: *const u8, m_len: usize, number: u16, s: *const u8, s_len: usize, point: u32) -> Data;
+    fn grib1_length(pds: *const u8, pds_len: usize, form: Form, number: u16, s: *const u8, s_len: usize, marks: *const u8, marks_len: usize) -> Written;
     fn grib1_write(
         pds: *const u8, pds_len: usize, form: Form, e: i32, r: u32, number: u16, s: *const u8, s_len: usize, values: *const u32, values_len: usize,
         marks: *const u8, marks_len: usize, out: *mut u8, out_len: usize,
@@ -57,6 +58,10 @@ pub fn point(grid: Grid, row: u32, column: u32) -> Point {
 
 pub fn data_number(m: &[u8], number: u16, s: &[u8], point: u32) -> Data {
     unsafe { grib1_data_number(m.as_ptr(), m.len(), number, s.as_ptr(), s.len(), point) }
+}
+
+pub fn length(pds: &[u8], form: Form, number: u16, s: &[u8], marks: &[u8]) -> Written {
+    unsafe { grib1_length(pds.as_ptr(), pds.len(), form, number, s.as_ptr(), s.len(), marks.as_ptr(), marks.len()) }
 }
 
 #[allow(clippy::too_many_arguments)]

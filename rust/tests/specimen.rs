@@ -1,5 +1,5 @@
 // Every function on document 01's specimen.
-use grib1::{pack, write, Bitmap, Data, Display, Form, Grid, Header, Message, Moment, Parts, Place, Section, Source, Stored};
+use grib1::{length, limits, pack, scan, write, Bitmap, Data, Display, Form, Grid, Header, Message, Moment, Parts, Place, Section, Source, Stored};
 
 const SPECIMEN: &str = "4752494200005E01\
     00001C030700FFC00B6401F462030A06000100000000000014000001\
@@ -8,7 +8,7 @@ const SPECIMEN: &str = "4752494200005E01\
     00000E0F0000439C4000030B8000\
     37373737";
 
-const GRID: Grid = Grid { ni: 2, nj: 2, la1: 50000, lo1: -2000, resolution: 128, la2: 51000, lo2: -1000, di: 1000, dj: 1000, scan: 64 };
+const GRID: Grid = Grid { ni: 2, nj: 2, la1: 50000, lo1: -2000, resolution: 128, la2: 51000, lo2: -1000, di: 1000, dj: 1000, scan: scan::NORTH };
 
 const HEADER: Header = Header {
     points: 4,
@@ -87,6 +87,9 @@ fn written() {
     let message = Message::new(&octets, Stored::NONE).unwrap();
     let pds = message.section(Section::Pds).unwrap();
     let parts = Parts { pds, form: message.form(), e: 0, r: HEADER.r, stored: Stored::NONE, values: &[0, 2, 0, 7], marks: &[1, 1, 0, 1] };
+    assert_eq!(length(pds, &parts.form, parts.stored, parts.marks), Ok(94));
+    assert_eq!(length(pds, &parts.form, parts.stored, &[1, 1, 0]).unwrap_err().reply, 13);
+    assert!(94 <= limits::WRITTEN_MOST);
     let mut out = [0xAA; 96];
     assert_eq!(write(&parts, &mut out[..93]).unwrap_err().reply, 14);
     assert_eq!(out, [0xAA; 96]);
@@ -118,7 +121,7 @@ fn stored() {
     let store = [0xDF];
     let lent = Stored { number: 5, octets: &store };
     let form = Form { bitmap: Bitmap::Stored(5), ..message.form() };
-    let mut out = [0; 96];
+    let mut out = vec![0; length(pds, &form, lent, NUMBERS.marks).unwrap()];
     let made = pack(pds, &form, lent, &NUMBERS, &mut out).unwrap();
     assert_eq!(made.len(), 92);
     let again = Message::new(made, lent).unwrap();

@@ -177,6 +177,14 @@ static void writing(void)
     form.packing_flags = h.packing_flags;
     form.bits = h.bits;
 
+    w = grib1_length(pds, 28, form, 0, none, 0, marks, 4);
+    same(w.reply, GRIB1_ACCEPTED);
+    same(w.len, 94);
+    w = grib1_length(pds, 28, form, 0, none, 0, marks, 3);
+    same(w.reply, GRIB1_LISTS);
+    same(w.len, 0);
+    same(grib1_length(pds, 27, form, 0, none, 0, marks, 4).reply, GRIB1_LENGTHS);
+
     memset(out, 0xAA, sizeof out);
     w = grib1_write(pds, 28, form, h.e, h.r, 0, none, 0, values, 4, marks, 4, out, 93);
     same(w.reply, GRIB1_ROOM);
@@ -207,6 +215,7 @@ static void writing(void)
     form.given = 1;
     same(grib1_write(pds, 28, form, 0, h.r, 0, none, 0, values, 4, marks, 4, out, 96).reply, GRIB1_BITMAP);
     same(grib1_pack(pds, 28, form, 0, none, 0, numbers, 4, marks, 4, 1, out, 96).reply, GRIB1_BITMAP);
+    same(grib1_length(pds, 28, form, 0, none, 0, marks, 4).reply, GRIB1_BITMAP);
     form.bitmap = 0xFFFFFFFF;
     same(grib1_write(pds, 28, form, 0, h.r, 0, none, 0, values, 4, marks, 4, out, 96).reply, GRIB1_BITMAP);
 
@@ -216,6 +225,8 @@ static void writing(void)
     w = grib1_write(pds, 28, form, h.e, h.r, 5, store, 1, values, 4, marks, 4, out, 96);
     same(w.reply, GRIB1_ACCEPTED);
     same(w.len, 92);
+    same(grib1_length(pds, 28, form, 5, store, 1, marks, 4).len, 92);
+    same(grib1_length(pds, 28, form, 6, store, 1, marks, 4).reply, GRIB1_BITMAP);
     part(__LINE__, grib1_bitmap(out, 92, 5, store, 1), 1, 0, 1);
     h = grib1_header(out, 92, 5, store, 1);
     same(h.bitmap, GRIB1_STORED);

@@ -223,6 +223,18 @@ static void writing(uint32_t function)
         tell_written(grib1_pack(pds, pds_len, f, number, s, s_len, a, a_len, marks, b_len, d, out, out_len));
 }
 
+static void before_writing(void)
+{
+    size_t pds_len, s_len, marks_len;
+    uint8_t *pds = list(1, 0, &pds_len);
+    Grib1Form f = form();
+    uint16_t number = (uint16_t)word();
+    uint8_t *s = list(1, 0, &s_len);
+    uint8_t *marks = list(1, 0, &marks_len);
+
+    tell_written(grib1_length(pds, pds_len, f, number, s, s_len, marks, marks_len));
+}
+
 /* what stands in the buffers now */
 static void tell_buffers(void)
 {
@@ -252,8 +264,10 @@ int main(void)
             about_message(function);
         else if (function <= 8)
             about_chart(function);
-        else
+        else if (function <= 10)
             writing(function);
+        else
+            before_writing();
         tell_buffers();
         len = (uint32_t)answered;
         fwrite(&len, 1, 4, stdout);

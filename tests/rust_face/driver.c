@@ -156,6 +156,19 @@ static void to_message(uint32_t function)
     answer(out, out_len);
 }
 
+static void before_message(void)
+{
+    size_t pds_len, s_len, marks_len;
+    uint8_t *pds = list(1, &pds_len);
+    Grib1Form f = form();
+    uint16_t number = (uint16_t)word();
+    uint8_t *s = list(1, &s_len);
+    uint8_t *marks = list(1, &marks_len);
+    Grib1Written w = grib1_length(pds, pds_len, f, number, s, s_len, marks, marks_len);
+
+    answer(&w, sizeof w);
+}
+
 int main(void)
 {
     uint32_t function;
@@ -167,7 +180,9 @@ int main(void)
         about_message(function);
     else if (function < 9)
         on_chart(function);
-    else
+    else if (function < 11)
         to_message(function);
+    else
+        before_message();
     return 0;
 }

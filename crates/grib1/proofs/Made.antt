@@ -1,11 +1,11 @@
--- The answers of check, write and pack at the numbers given, as records.
+-- The answers of check, length, write and pack at the numbers given, as records.
 use mathlib.Core.Path.{_≡_}
 use mathlib.Core.List.{List}
 use Prim.Native.Nat.{ℕ}
 use lib.IntN.{ℤ}
 use Rattle.rules.specs.declared.{Refusal.Refusal, Form.Form, Scale.Scale, Written.Written}
 use Rattle.rules.specs.Bitmap.{Lent}
-use Rattle.rules.specs.Writing.{writeOf, outputAfter}
+use Rattle.rules.specs.Writing.{writeOf, outputAfter, lengthFor}
 use Rattle.rules.specs.Checking.{checkOf}
 use Rattle.rules.specs.Packing.{packOf, packedAfter}
 use Rattle.sections.specs.Given.{parts}
@@ -20,6 +20,13 @@ pub check-made : (s : List ℕ) (lent : Lent) (numbers : List ℤ) (marks : List
     → (x : CheckRecord) → x ≡ checkRecord r
     → x ≡ checkRecord (checkOf s lent (record { numbers = numbers; marks = marks; d = d }))
 check-made s lent numbers marks d d' e r q x p = rw (p, q, e)
+
+pub length-made : (pds : List ℕ) (form : FormRecord) (form' : Form) (lent : Lent) (marks : List ℕ)
+    → form' ≡ formBy form
+    → (w : Written) → w ≡ lengthFor pds form' lent marks
+    → (x : WrittenRecord) → x ≡ writtenRecord w
+    → x ≡ writtenRecord (lengthFor pds (formBy form) lent marks)
+length-made pds form form' lent marks f w q x p = rw (p, q, f)
 
 pub write-made : (pds : List ℕ) (form : FormRecord) (form' : Form) (e : ℤ) (r : ℕ) (scale : Scale) (number : ℕ) (store values marks out : List ℕ)
     → form' ≡ formBy form

@@ -4,7 +4,7 @@ ghost use mathlib.Core.Path.{_≡_};
 ghost use Rattle.rules.specs.Chart.{charted, pointed};
 ghost use Rattle.rules.specs.Reading.{headerOf, readOf, valuesAfter, marksAfter, sectionOf, bitmapOf, numberingOf};
 ghost use Rattle.rules.specs.Display.{displayOf};
-ghost use Rattle.rules.specs.Writing.{writeOf, outputAfter};
+ghost use Rattle.rules.specs.Writing.{writeOf, outputAfter, lengthFor};
 ghost use Rattle.rules.specs.Checking.{checkOf};
 ghost use Rattle.rules.specs.Packing.{packOf, packedAfter};
 ghost use Rattle.sections.specs.Given.{parts as theParts};
@@ -122,6 +122,20 @@ pub extern "C" fn grib1_data_number(
     ensures { λ r. ⌜ r ≡ dataRecord (numberingOf (now (message .entry)) (record { number = number; octets = now (store .entry) }) point) ⌝ }
 {
     data_record(points::data_number(message, number, store, GridPoint(point)))
+}
+
+// How many octets the message of a PDS, a form and marks takes, whatever its E, R and values.
+#[no_mangle]
+pub extern "C" fn grib1_length(
+    pds: &[u8],
+    form: FormRecord,
+    number: u16,
+    store: &[u8],
+    marks: &[u8],
+) -> WrittenRecord
+    ensures { λ r. ⌜ r ≡ writtenRecord (lengthFor (now (pds .entry)) (formBy form) (record { number = number; octets = now (store .entry) }) (now (marks .entry))) ⌝ }
+{
+    written_record(sections::message_length(pds, form_by(form), number, store, marks))
 }
 
 // Writes the message of a PDS, a form, E and R, and lists of values and marks.

@@ -3,12 +3,13 @@ use Prim.Native.Nat.{ℕ, _+_, _%_, _^_}
 use mathlib.Core.Bool.{Bool, true, false, not, _&&_, _||_, cond}
 use mathlib.Core.List.{List, [], _∷_}
 use lib.Dec.{ltb, leb, eqb}
+use lib.IntN.{pos}
 use lib.ListN.{length}
 use Rattle.rules.specs.declared.{Refusal.Refusal, Found.Found, Found.the-variants.Nothing, Found.the-variants.Given, Bitmap.Bitmap, Bitmap.the-variants.Without, Bitmap.the-variants.Carried, Bitmap.the-variants.Stored, Form.Form, Scale.Scale, Written.Written}
 use Rattle.rules.specs.Bounds.{pdsLeast, pdsMost, exponentMost}
 use Rattle.bits.specs.Bits.{bitsIn}
-use Rattle.bits.specs.Tables.{anyBelow}
-use Rattle.rules.specs.Numbers.{Field, number, field, laid, joined, outside, beyond}
+use Rattle.bits.specs.Tables.{tab, anyBelow}
+use Rattle.rules.specs.Numbers.{Field, number, field, laid, joined, plain, outside, beyond}
 use Rattle.rules.specs.Table.{Row, row, anyOf, first, answered, filled}
 use Rattle.rules.specs.Places.{grib, sevens, hasGrid, hasBitmap}
 use Rattle.rules.specs.Time.{timeFaults}
@@ -120,3 +121,20 @@ writeOf w out = lengthOf (writeRefusal w out) (message w)
 -- "Writing fills the message's octets; later ones stay"
 unfoldable pub outputAfter : Parts → List ℕ → List ℕ
 outputAfter w out = filled (writeRefusal w out) (message w) out
+
+-- what is known of a message before its values are: the parts with E, R and the value at each of its n points 0
+unfoldable pub unvalued : List ℕ → Form → Lent → List ℕ → Parts
+unvalued pds form lent marks = record {
+  pds = pds;
+  form = form;
+  scale = record { e = plain (pos 0); r = 0 };
+  lent = lent;
+  values = tab (λ _. 0) (pointsOf (theGrid (gridFrom (form .grid) pds 0)));
+  marks = marks;
+}
+
+-- how many octets it will take: what writing these answers where just the message's octets are lent
+unfoldable pub lengthFor : List ℕ → Form → Lent → List ℕ → Written
+lengthFor pds form lent marks =
+    let w = unvalued pds form lent marks in
+    writeOf w (message w)

@@ -47,6 +47,10 @@ pub message-few : (pds : ℕ) (form : Form) (n m : ℕ) → pds ≤ pdsMost → 
 unfolding messageRoom frontRoom
 message-few pds form n m p h k b = omega (arith, gds-few (form .grid), bms-few (form .bitmap) n h, bds-few (form .packing .bits) m b k)
 
+-- the number that the faces name (GRIB1_WRITTEN_MOST)
+pub most-is : roomMost ≡ 205886
+most-is = refl
+
 -- how a data section's length holds its bits
 pub record Held (bits m : ℕ) : Type 0 where
   pub least : bdsLeast ≤ bdsRoom bits m

@@ -1,5 +1,5 @@
 -- The proofs, from the general to the particular: octets placed, rooms, marks, sections, what is laid down around the values, the
--- end of the data, what the rows leave, and the message.
+-- end of the data, what the rows leave, the message, and its length told beforehand.
 pub mod Placing
 pub mod Lengths
 pub mod Marks
@@ -9,3 +9,4 @@ pub mod Gathered
 pub mod Ending
 pub mod Ready
 pub mod Message
+pub mod Foretold

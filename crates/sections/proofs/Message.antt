@@ -194,6 +194,13 @@ module _ (pds : List ℕ) (form : Form) (scale : Scale) (number : ℕ) (store va
           ap (messageRoom (length pds) form n) (present-count marks (k .listed .mark) n)
           ∙ sym (message-length pds form scale (markOf marks) (k .listed .mark) (valueOf values) n) ∙ ap length (sym message-of)
 
+      -- with room for it the answer is its length, by its parts' rooms
+      pub roomy : length (message w) ≤ length out → (m : ℕ) → m ≡ presentIn marks n → (len : ℕ) → len ≡ messageRoom (length pds) form n m → record { refusal = refusal 0; len = len } ≡ writeOf w out
+      unfolding writeOf lengthOf
+      roomy h m em len el =
+          let t : writeRefusal w out ≡ refusal 0 = late z false (le-ltb (length out) (length (message w)) h) in
+          rw t (ap {B = Written} (λ (x : ℕ). record { refusal = refusal 0; len = x }) (el ∙ ap (messageRoom (length pds) form n) em ∙ length-of))
+
       module _ (f : Frame) (fe : f ≡ frameOf pds form scale marks n (length out)) where
         pub refused-late : f .len ≡ 0 → (o : List ℕ) → o ≡ framed pds form scale marks n out → (record { refusal = refusal 14; len = 0 } ≡ writeOf w out) × (o ≡ outputAfter w out)
         refused-late h o e =

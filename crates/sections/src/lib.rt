@@ -1,23 +1,33 @@
 // All of a message but its values, laid down in lent octets: the indicator, the sections before the data, and what stands in the data section
-// before the data. Whoever lends the octets then puts the values and, last, '7777': a loop that puts values may store zeros past the data.
+// before the data. Whoever lends the octets then puts the values and, last, '7777': a loop that puts values may store zeros past the data. And how many
+// octets the whole will take, before any are lent.
 ghost use mathlib.Core.Path.{_≡_};
 ghost use lib.ListN.{length};
+ghost use Rattle.rules.specs.Writing.{lengthFor};
 ghost use Rattle.sections.specs.Framing.{givenBad, frameOf, framed};
 
 mod laying; // laying.rt: the sections octet by octet
 mod rooms; // rooms.rt: how many octets each takes
 
 use grid::grid_bad;
+use grid::grid_from;
+use grid::points;
+use grid::the_grid;
 use laying::lay_front;
 use laying::put_head;
 use marks::count;
+use octets::plain;
+use reply::unwritten;
+use reply::written;
 use rooms::BDS_OCTETS;
 use rooms::message_room;
 use rules::Form;
 use rules::Found;
 use rules::Scale;
+use rules::Written;
 use rules::bounds::PDS_MOST;
 use rules::bounds::POINTS_MOST;
+use writable::judge_marks;
 use writable::scale_bad;
 
 // Where the data begin, how many points are present, and how long the message is. Zeros where nothing was laid down.
@@ -71,4 +81,21 @@ pub fn lay(pds: &[u8], form: Form, scale: Scale, marks: &[u8], n: u32, out: &mut
         present: m,
         len: len as u32,
     }
+}
+
+// How many octets the message takes of a PDS, a form, the lent bitmap of a number and marks, whatever its E, R and values will be; or the reply of the row
+// but 14 that refuses them whatever these are.
+pub fn message_length(pds: &[u8], form: Form, number: u16, store: &[u8], marks: &[u8]) -> Written
+    ensures { λ r. ⌜ r ≡ lengthFor (now (pds .entry)) form (record { number = number; octets = now (store .entry) }) (now (marks .entry)) ⌝ }
+{
+    let grid = form.grid;
+    let found = grid_from(grid, pds, 0);
+    let n = points(the_grid(found));
+    let scale = Scale { e: plain(0), r: 0 };
+    let refusal = judge_marks(pds, form, scale, number, store, n as usize, marks, found, n);
+    if refusal.number != 0 {
+        return unwritten(refusal);
+    }
+    let m = count(marks, n);
+    written(0, message_room(pds.len(), form, n, m) as u32)
 }

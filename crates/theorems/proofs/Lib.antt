@@ -31,3 +31,5 @@ pub mod Steps
 pub mod Checked
 pub mod Packs
 pub mod PackReplies
+-- the length told before the values are
+pub mod Foretold

@@ -33,7 +33,7 @@ use Rattle.theorems.proofs.Steps.{no-step-fits}
 use Rattle.theorems.proofs.Checked.{decimal-no}
 
 -- a reply of another number than this row's: the row does not apply
-not-this : (n k : ℕ) (test : Bool) (below : Refusal) → eqb n k ≡ false → cond test (refusal n) below ≡ refusal k → (test ≡ false) × (below ≡ refusal k)
+pub not-this : (n k : ℕ) (test : Bool) (below : Refusal) → eqb n k ≡ false → cond test (refusal n) below ≡ refusal k → (test ≡ false) × (below ≡ refusal k)
 not-this n k true below d e = absurd (eqb-false n k d (ap (λ (r : Refusal). r .number) e))
 not-this n k false below d e = (refl, e)
 

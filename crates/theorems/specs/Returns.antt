@@ -1,12 +1,12 @@
 -- Document 00, demand 2: "Writing gives a message that reads back to the same parts", and "Reading and then writing gives the same octets when ..".
 use Prim.Native.Nat.{ℕ, _+_, _-_, _*_, _^_, _<_, _≤_}
 use mathlib.Core.Path.{_≡_}
-use mathlib.Core.Logic.{_↔_}
+use mathlib.Core.Logic.{_↔_, _⊎_}
 use mathlib.Core.Bool.{Bool, cond}
 use mathlib.Core.List.{List, [], _∷_}
 use lib.Dec.{T, eqb}
 use lib.ListN.{length, getD, take}
-use Rattle.rules.specs.declared.{Header.Header, Shape.Shape, Geometry.Geometry, Found.Found, Found.the-variants.Nothing, Found.the-variants.Given, Bitmap.Bitmap, Bitmap.the-variants.Without, Bitmap.the-variants.Carried, Bitmap.the-variants.Stored, Written.Written}
+use Rattle.rules.specs.declared.{Header.Header, Shape.Shape, Geometry.Geometry, Found.Found, Found.the-variants.Nothing, Found.the-variants.Given, Bitmap.Bitmap, Bitmap.the-variants.Without, Bitmap.the-variants.Carried, Bitmap.the-variants.Stored, Form.Form, Written.Written}
 use Rattle.bits.specs.Bits.{bitsIn}
 use Rattle.rules.specs.Bounds.{bmsHead, bdsHead}
 use Rattle.rules.specs.Numbers.{octet}
@@ -14,7 +14,9 @@ use Rattle.rules.specs.Table.{refusal, accepted}
 use Rattle.rules.specs.Places.{octetsOf, pdsStart, hasGrid, placesOf}
 use Rattle.rules.specs.Bitmap.{Lent, marksLong}
 use Rattle.rules.specs.Reading.{pointsIn, bitmapIn, presentCount, packingIn, readOf, valuesAfter, marksAfter}
-use Rattle.rules.specs.Writing.{Parts, pointsFor, message, writeRefusal, writeOf, outputAfter}
+use Rattle.rules.specs.Writing.{Parts, pointsFor, message, writeRefusal, writeOf, outputAfter, lengthFor}
+use Rattle.rules.specs.Checking.{Source}
+use Rattle.rules.specs.Packing.{packed, packRefusal}
 use Rattle.rules.specs.RoundTrip.{partsIn, stains, canonical}
 use Rattle.laws.specs.Taken.{Taken}
 use Rattle.theorems.specs.Reads.{Tells}
@@ -146,3 +148,15 @@ abbrev pub PaddingIgnored : Type 0
 PaddingIgnored =
     (s o : List ℕ) (lent : Lent) → Below 256 s → Below 256 o → length o ≡ length s → ((i : ℕ) → (Ignored s lent i → ⊥) → bitsIn 8 o i ≡ bitsIn 8 s i)
     → Taken s lent → Taken o lent × (partsIn o lent ≡ partsIn s lent)
+
+-- what a caller lends by: where writing takes the parts, or lacks nothing but room for them (14), the length told beforehand by all but E, R and the values is the message's
+abbrev pub LengthTold : Type 0
+LengthTold =
+    (w : Parts) (out : List ℕ) → (writeRefusal w out ≡ refusal 0) ⊎ (writeRefusal w out ≡ refusal 14)
+    → lengthFor (w .pds) (w .form) (w .lent) (w .marks) ≡ record { refusal = refusal 0; len = length (message w) }
+
+-- and so for packing
+abbrev pub PackLengthTold : Type 0
+PackLengthTold =
+    (pds : List ℕ) (form : Form) (lent : Lent) (f : Source) (out : List ℕ) → (packRefusal pds form lent f out ≡ refusal 0) ⊎ (packRefusal pds form lent f out ≡ refusal 14)
+    → lengthFor pds form lent (f .marks) ≡ record { refusal = refusal 0; len = length (message (packed pds form lent f)) }

@@ -28,6 +28,9 @@ pub «grib1_point» : Tight contracts.grib1_point.ended λ M. contracts.grib1_po
 pub «grib1_data_number» : Tight contracts.grib1_data_number.ended λ M. contracts.grib1_data_number.clauses
 «grib1_data_number» k g h x y ws vs = by-reply k refl
 
+pub «grib1_length» : Tight contracts.grib1_length.ended λ M. contracts.grib1_length.clauses
+«grib1_length» k g h x y ws vs = by-reply k refl
+
 pub «grib1_write» : Tight contracts.grib1_write.ended λ M. contracts.grib1_write.clauses
 «grib1_write» k g h x y ws vs = by-list k λ e i. (tt, (tt, (tt, (tt, (tt, (tt, (tt, (tt, (e i, tt)))))))))
 

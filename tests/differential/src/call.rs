@@ -1,6 +1,7 @@
 //! One call of the codec: what is sent to the driver, and what must come back.
 
 use second_reading as rules;
+use second_reading::grid::{from_catalogue, points};
 use second_reading::{BitmapKind, DataNumber, Form, Grid, Header, Lent, Part, Parts, Source};
 
 /// The functions by the driver's numbers.
@@ -15,6 +16,7 @@ const PLACE: u32 = 7;
 const POINT: u32 = 8;
 const WRITE: u32 = 9;
 const PACK: u32 = 10;
+const LENGTH: u32 = 11;
 
 pub struct Call {
     /// What is called, for the report of a difference.
@@ -243,6 +245,23 @@ pub fn write(parts: &Parts, kinds: Kinds, out: &[u8]) -> Call {
         what: format!("write into {} octets", out.len()),
         asked: asked.0,
         expected: Octets::default().words(&[reply, len]).octets(&after).kept(),
+        reply: Some(reply),
+    }
+}
+
+/// How long the message will be: what writing gives for an E, an R and n values of 0, with room for any message.
+pub fn length(pds: &[u8], form: &Form, kinds: Kinds, lent: &Lent, marks: &[u8]) -> Call {
+    let meant = form_meant(form, kinds);
+    let grid = meant.grid.or_else(|| pds.get(6).and_then(|&number| from_catalogue(number)));
+    let n = grid.map_or(0, |g| points(&g)).min(65_537) as usize;
+    let parts = Parts { pds: pds.to_vec(), form: meant, e: 0, r: 0, lent: lent.clone(), values: vec![0; n], marks: marks.to_vec() };
+    let (reply, len) = rules::write(&parts, &mut vec![0; 205_886]);
+    let mut asked = Octets::default();
+    asked.word(LENGTH).list(pds).form(form, kinds).lent(lent).list(marks);
+    Call {
+        what: format!("length for {} marks", marks.len()),
+        asked: asked.0,
+        expected: Octets::default().words(&[reply, len]).kept(),
         reply: Some(reply),
     }
 }

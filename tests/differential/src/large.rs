@@ -117,6 +117,7 @@ pub fn calls(seed: u64, index: usize) -> Vec<Call> {
         call::write(&parts, kinds, &out),
         call::write(&parts, kinds, &out[..message.len()]),
         call::write(&parts, kinds, &out[..message.len() - 1]),
+        call::length(&pds, &form, kinds, &lent, &marks),
     ];
 
     let (header, _) = call::header(&message, &lent);
