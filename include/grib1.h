@@ -8,7 +8,7 @@
  * A buffer that is not written is only read. A reply other than 0 changes no buffer and comes with every other field 0.
  * Padding between fields has no set content.
  *
- * Thread-safe: no globals, no heap, nothing is kept between calls. Stack (measured): under 1 KiB, and in grib1_check, which holds 256 values at a time, 2.1 KiB.
+ * Thread-safe: no globals, no heap, nothing is kept between calls. How much stack a call takes is told below, by function.
  *
  * message        one GRIB message, whole: 'GRIB' to '7777'
  * store_number   the number of the stored bitmap that is lent with the message, 0 where none is
@@ -56,6 +56,21 @@ extern "C" {
 
 /* A di or dj that is missing, all ones. */
 #define GRIB1_MISSING 65535
+
+/* The most octets of stack that a call takes, its arguments and its return address among them: measured over many calls
+ * (tests/stack) and rounded up. Those that write, pack or check hold 256 values at a time. */
+#define GRIB1_STACK_HEADER 1280
+#define GRIB1_STACK_READ 1536
+#define GRIB1_STACK_SECTION 1280
+#define GRIB1_STACK_BITMAP 1280
+#define GRIB1_STACK_DISPLAY 1280
+#define GRIB1_STACK_PLACE 256
+#define GRIB1_STACK_POINT 256
+#define GRIB1_STACK_DATA_NUMBER 1280
+#define GRIB1_STACK_LENGTH 1280
+#define GRIB1_STACK_WRITE 3328
+#define GRIB1_STACK_CHECK 3584
+#define GRIB1_STACK_PACK 4608
 
 /* What a reply says. The first that applies is given, in number order; grib1_check gives 1 to 12, then 18, 15, 16,
  * 17, and grib1_pack gives 5, 18, 15, 11, 19, then the rest of grib1_write's. */
