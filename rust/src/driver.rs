@@ -7,6 +7,7 @@ use std::io::Write;
 use std::mem::{size_of, size_of_val};
 use std::process::{Command, Stdio};
 use std::slice;
+use std::vec::Vec;
 
 // A call that is put together, and what came back.
 struct Call(Vec<u8>);

@@ -1,5 +1,5 @@
 //! A proved GRIB Edition 1 codec: a safe face of `libgrib1.a`. Nothing is copied or allocated here: lists and octets are lent by the caller,
-//! and parts are borrowed from them. Every octet string gets the one reply that the rules fix, and a refusal changes nothing that is lent.
+//! and parts are borrowed from them. Every octet string gets the one reply that the rules fix, and a refusal changes nothing that is lent. It needs no std.
 //!
 //! ```
 //! # let octets: &[u8] = &[
@@ -19,6 +19,12 @@
 //! # Ok::<(), grib1::Refusal>(())
 //! ```
 
+// Nothing of std is asked for: only the tests' driver, which starts programs, has it.
+#![no_std]
+
+#[cfg(feature = "driver")]
+extern crate std;
+
 pub mod limits;
 mod records;
 mod refusal;
@@ -30,13 +36,10 @@ mod driver;
 #[cfg(feature = "driver")]
 use driver as face;
 
-#[cfg(all(not(feature = "driver"), target_arch = "x86_64"))]
+#[cfg(not(feature = "driver"))]
 mod linked;
-#[cfg(all(not(feature = "driver"), target_arch = "x86_64"))]
+#[cfg(not(feature = "driver"))]
 use linked as face;
-
-#[cfg(all(not(feature = "driver"), not(target_arch = "x86_64")))]
-compile_error!("libgrib1.a is x86-64 code: no program of this processor can link it");
 
 pub use refusal::Refusal;
 pub use rows::{Row, Rows};

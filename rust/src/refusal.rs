@@ -1,6 +1,6 @@
 // Why something is refused.
-use std::error::Error;
-use std::fmt;
+use core::error::Error;
+use core::fmt;
 
 /// A reply other than 0.
 #[derive(Clone, Copy, Debug, PartialEq, Eq)]
