@@ -1,14 +1,16 @@
-/* grib1: a proved GRIB Edition 1 codec. Link libgrib1.a, which tools/archive builds (x86-64 Linux); it needs no library but C's.
+/* grib1: a proved GRIB Edition 1 codec. Link libgrib1.a, which tools/archive builds (x86-64 Linux); it needs no library
+ * but C's.
  *
  * Every function takes any octets and numbers, answers by value, and returns. What each answer is stands in
  * crates/grib1/src/lib.rt, as an equation that is proved. The caller owes only this:
- *   - a pointer and its length, in elements, are memory that the caller lends for the call; no pointer is NULL, also where its
- *     length is 0;
+ *   - a pointer and its length, in elements, are memory that the caller lends for the call; no pointer is NULL, also
+ *     where its length is 0;
  *   - a buffer that is written (values and marks of grib1_read, out) overlaps no other buffer of the call.
  * A buffer that is not written is only read. A reply other than 0 changes no buffer and comes with every other field 0.
  * Padding between fields has no set content.
  *
- * Thread-safe: no globals, no heap, nothing is kept between calls. How much stack a call takes is told below, by function.
+ * Thread-safe: no globals, no heap, nothing is kept between calls. How much stack a call takes is told below, by
+ * function.
  *
  * message        one GRIB message, whole: 'GRIB' to '7777'
  * store_number   the number of the stored bitmap that is lent with the message, 0 where none is
@@ -25,8 +27,8 @@
 extern "C" {
 #endif
 
-/* The version of what is declared here. While its first number is 0, a new second number may change a name, a field or a
- * function, and a new third one changes none. */
+/* The version of what is declared here. While its first number is 0, a new second number may change a name, a field or
+ * a function, and a new third one changes none. */
 #define GRIB1_VERSION_MAJOR 0
 #define GRIB1_VERSION_MINOR 2
 #define GRIB1_VERSION_PATCH 0
@@ -200,8 +202,8 @@ typedef struct {
     uint32_t reply;            /* enum grib1_reply: 0 where the message renders the source, else 1 to 12, 15 to 18 */
 } Grib1Checked;
 
-/* What the caller of grib1_write, grib1_pack and grib1_length chooses. Every number means something: a kind with no name
- * is refused where its part is judged. */
+/* What the caller of grib1_write, grib1_pack and grib1_length chooses. Every number means something: a kind with no
+ * name is refused where its part is judged. */
 typedef struct {
     uint32_t given;            /* 0: no GDS, PDS octet 7 picks the grid; 1: grid is written as the GDS; any other
                                   number is refused by 9 */
@@ -237,8 +239,8 @@ Grib1Part grib1_bitmap(const uint8_t *message, size_t message_len, uint16_t stor
 Grib1Display grib1_display(const uint8_t *message, size_t message_len, uint16_t store_number, const uint8_t *store,
     size_t store_len);
 
-/* Where a grid point lies on the chart of a grid, and which point lies at a place. Of the grid only ni, nj and scan count,
- * and any numbers will do. */
+/* Where a grid point lies on the chart of a grid, and which point lies at a place. Of the grid only ni, nj and scan
+ * count, and any numbers will do. */
 Grib1Place grib1_place(Grib1Grid grid, uint32_t point);
 Grib1Point grib1_point(Grib1Grid grid, uint32_t row, uint32_t column);
 
@@ -246,9 +248,9 @@ Grib1Point grib1_point(Grib1Grid grid, uint32_t row, uint32_t column);
 Grib1Data grib1_data_number(const uint8_t *message, size_t message_len, uint16_t store_number, const uint8_t *store,
     size_t store_len, uint32_t point);
 
-/* How many octets the message of a PDS, a form and n marks takes, for a caller who lends no more than these: whatever E, R
- * and the values or source numbers are, a grib1_write or grib1_pack of the same parts that accepts them answers this len.
- * A reply other than 0, one of 5 to 7, 9 to 11 and 13, says that they will refuse these parts whatever comes with them.
+/* How many octets the message of a PDS, a form and n marks takes, for a caller who lends no more than these: whatever
+ * E, R and the values or source numbers are, a grib1_write or grib1_pack of the same parts that accepts them answers
+ * this len. A reply other than 0, one of 5 to 7, 9 to 11 and 13, says that they will refuse these parts whatever comes with them.
  * Reads pds, store and marks. */
 Grib1Written grib1_length(const uint8_t *pds, size_t pds_len, Grib1Form form, uint16_t store_number,
     const uint8_t *store, size_t store_len, const uint8_t *marks, size_t marks_len);

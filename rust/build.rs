@@ -1,5 +1,5 @@
-// Says where libgrib1.a is: the file that GRIB1_ARCHIVE names, or where tools/archive puts it in this repository. And says, before a linker does, where no
-// program can be linked with it.
+// Says where libgrib1.a is: the file that GRIB1_ARCHIVE names, or where tools/archive puts it in this repository. And
+// says, before a linker does, where no program can be linked with it.
 use std::env;
 use std::path::PathBuf;
 

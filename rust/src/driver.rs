@@ -1,6 +1,6 @@
-// The archive's functions by way of a program that is linked with it (tests/rust_face/driver.c) and that the file named by GRIB1_DRIVER runs,
-// one process for each call. Records and elements lie in memory alike on both sides: the fields have C's places, low octet first, and no
-// pointer crosses.
+// The archive's functions by way of a program that is linked with it (tests/rust_face/driver.c) and that the file named
+// by GRIB1_DRIVER runs, one process for each call. Records and elements lie in memory alike on both sides: the fields
+// have C's places, low octet first, and no pointer crosses.
 use crate::records::{Checked, Data, Display, Form, Grid, Header, Part, Place, Point, Written};
 use std::env;
 use std::io::Write;

@@ -1,5 +1,6 @@
-//! A proved GRIB Edition 1 codec: a safe face of `libgrib1.a`. Nothing is copied or allocated here: lists and octets are lent by the caller,
-//! and parts are borrowed from them. Every octet string gets the one reply that the rules fix, and a refusal changes nothing that is lent. It needs no std.
+//! A proved GRIB Edition 1 codec: a safe face of `libgrib1.a`. Nothing is copied or allocated here: lists and octets
+//! are lent by the caller, and parts are borrowed from them. Every octet string gets the one reply that the rules fix,
+//! and a refusal changes nothing that is lent. It needs no std.
 //!
 //! ```
 //! # let octets: &[u8] = &[
@@ -78,8 +79,8 @@ pub enum Section {
     End = 5,
 }
 
-/// A latitude/longitude grid; corners in thousandths of a degree, north and east positive; `di` and `dj` may be `limits::MISSING`; `scan` has the bits
-/// of the module `scan`.
+/// A latitude/longitude grid; corners in thousandths of a degree, north and east positive; `di` and `dj` may be
+/// `limits::MISSING`; `scan` has the bits of the module `scan`.
 #[derive(Clone, Copy, Debug, PartialEq, Eq)]
 pub struct Grid {
     pub ni: u16,
@@ -125,7 +126,8 @@ pub struct Moment {
     pub minute: u8,
 }
 
-/// What a message says, but for its lists. X at a point stands for Y with Y × 10^D = R + X × 2^E; `r` is R's four octets.
+/// What a message says, but for its lists. X at a point stands for Y with Y × 10^D = R + X × 2^E; `r` is R's four
+/// octets.
 #[derive(Clone, Copy, Debug, PartialEq, Eq)]
 pub struct Header {
     pub points: u32,
@@ -210,7 +212,8 @@ impl<'a> Message<'a> {
         self.part(face::section(self.octets, self.stored.number, self.stored.octets, section as u32))
     }
 
-    /// The octets that hold the n bits of the bitmap in force, of the message or of the stored one; None where all points are present.
+    /// The octets that hold the n bits of the bitmap in force, of the message or of the stored one; None where all
+    /// points are present.
     pub fn bitmap(&self) -> Option<&'a [u8]> {
         self.part(face::bitmap(self.octets, self.stored.number, self.stored.octets))
     }
@@ -288,15 +291,17 @@ impl<'b> Field<'b> {
     }
 }
 
-/// How many octets the message of a PDS, a form and n marks takes, for a caller who lends no more than these: whatever E, R and the values or source
-/// numbers are, a `write` or `pack` of the same parts that accepts them hands out so many. A refusal is one that they meet whatever these are.
+/// How many octets the message of a PDS, a form and n marks takes, for a caller who lends no more than these: whatever
+/// E, R and the values or source numbers are, a `write` or `pack` of the same parts that accepts them hands out so
+/// many. A refusal is one that they meet whatever these are.
 pub fn length(pds: &[u8], form: &Form, stored: Stored, marks: &[u8]) -> Result<usize, Refusal> {
     let w = face::length(pds, form_record(form), stored.number, stored.octets, marks);
     Refusal::unless_accepted(w.reply)?;
     Ok(w.len as usize)
 }
 
-/// Writes the message of the parts given to the front of `out`, and hands out its octets. `limits::WRITTEN_MOST` octets hold any message.
+/// Writes the message of the parts given to the front of `out`, and hands out its octets. `limits::WRITTEN_MOST` octets
+/// hold any message.
 pub fn write<'o>(parts: &Parts, out: &'o mut [u8]) -> Result<&'o [u8], Refusal> {
     let p = parts;
     let w = face::write(p.pds, form_record(&p.form), p.e, p.r, p.stored.number, p.stored.octets, p.values, p.marks, out);
@@ -304,7 +309,8 @@ pub fn write<'o>(parts: &Parts, out: &'o mut [u8]) -> Result<&'o [u8], Refusal> 
     Ok(&out[..w.len as usize])
 }
 
-/// Packs a source field, with the least R and the least E that do, into a message at the front of `out`, and hands out its octets.
+/// Packs a source field, with the least R and the least E that do, into a message at the front of `out`, and hands out
+/// its octets.
 pub fn pack<'o>(pds: &[u8], form: &Form, stored: Stored, source: &Source, out: &'o mut [u8]) -> Result<&'o [u8], Refusal> {
     let w = face::pack(pds, form_record(form), stored.number, stored.octets, source.numbers, source.marks, source.d, out);
     Refusal::unless_accepted(w.reply)?;

@@ -1,5 +1,5 @@
-// The archive's functions, each with its slices taken apart. A slice of Rust is what the archive asks for: a pointer that is not null, to that
-// many elements, and what is lent as `&mut` overlaps nothing else.
+// The archive's functions, each with its slices taken apart. A slice of Rust is what the archive asks for: a pointer
+// that is not null, to that many elements, and what is lent as `&mut` overlaps nothing else.
 use crate::records::{Checked, Data, Display, Form, Grid, Header, Part, Place, Point, Written};
 
 extern "C" {

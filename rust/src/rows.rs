@@ -1,5 +1,5 @@
-// The chart by rows. Along a row the points' numbers stand at equal distances, so the codec is asked for the first two of each row, and a
-// point costs a sum and two fetches.
+// The chart by rows. Along a row the points' numbers stand at equal distances, so the codec is asked for the first two
+// of each row, and a point costs a sum and two fetches.
 use crate::{Grid, Place};
 
 /// The rows of a chart, from north.

@@ -1,5 +1,5 @@
 #!/usr/bin/env python3
-"""Draws the crates and what each may use, from crates.txt: layers from the bottom up, and of each crate what it says of itself.
+"""Draws the crates and what each may use, from crates.txt: under its headings, and of each crate what it says of itself.
 
 usage: picture.py ROOT    (writes the page to standard output)
 """
@@ -10,10 +10,15 @@ root = sys.argv[1]
 KIT = {"std", "check", "io", "bytes", "os", "libc"}
 
 uses = {}
+headings = []  # (words, names)
 for line in open(os.path.join(root, "crates.txt"), encoding="utf-8"):
-    if line.strip() and not line.startswith("#"):
+    if line.startswith("# "):
+        headings.append((line[2:].strip(), []))
+    elif line.strip():
         name, rest = line.split(":")
         uses[name] = rest.split()
+        headings[-1][1].append(name)
+headings = [(words, names) for words, names in headings if names]
 
 below = {}
 
@@ -24,10 +29,6 @@ def under(name):
         direct = [u for u in uses.get(name, []) if u not in KIT]
         below[name] = set(direct).union(*(under(u) for u in direct)) if direct else set()
     return below[name]
-
-
-def layer(name):
-    return 1 + max((layer(u) for u in uses[name] if u not in KIT), default=-1)
 
 
 def nearest(name):
@@ -53,16 +54,23 @@ def says(name):
 
 
 print("# The crates, and what each may use\n")
-print("Drawn from `crates.txt` by `tests/crates/picture.py`; `tests/crates/run` fails where this page is another one. A crate stands one layer above")
-print("the highest that it uses, and may use nothing above it. An arrow is left out where a longer way leads there too.\n")
+print("Drawn from `crates.txt` by `tests/crates/picture.py`; `tests/crates/run` fails where this page is another one. A")
+print("crate uses crates of its own heading or of one above it. An arrow is left out where a longer way leads there too, and")
+print("the last heading but one, which uses nearly all, is not drawn.\n")
 print("```mermaid\nflowchart BT")
-for name in uses:
-    for u in nearest(name):
-        print(f"    {name} --> {u}")
+drawn = [h for h in headings if h is not headings[-2]]
+for k, (words, names) in enumerate(drawn):
+    print(f'    subgraph h{k} ["{words}"]')
+    for name in names:
+        print(f"        {name}")
+    print("    end")
+for _, names in drawn:
+    for name in names:
+        for u in nearest(name):
+            print(f"    {name} --> {u}")
 print("```\n")
-for depth in range(max(map(layer, uses)) + 1):
-    names = [n for n in uses if layer(n) == depth]
-    print(f"## Layer {depth}\n\n| crate | uses, nearest first below it | what it is |\n|---|---|---|")
+for words, names in headings:
+    print(f"## {words}\n\n| crate | uses, nearest first below it | what it is |\n|---|---|---|")
     for name in names:
         kit = [u for u in uses[name] if u in KIT]
         nearby = ", ".join(nearest(name)) + (("; the kit's " + ", ".join(kit)) if kit else "")

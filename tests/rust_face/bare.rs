@@ -1,4 +1,5 @@
-//! A library without std over the crate, with a panic handler of its own: it cannot be built beside a crate that has std, which brings another.
+//! A library without std over the crate, with a panic handler of its own: it cannot be built beside a crate that has
+//! std, which brings another.
 #![no_std]
 
 #[panic_handler]

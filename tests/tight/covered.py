@@ -13,8 +13,8 @@ EXCEPTIONS = {
 }
 # a weaker statement: function, what of its reply is fixed, and why not all
 WEAKER = {
-    ("parts", "section"): ("(λ κs. apparent)", "the ghost name of the reference handed back is the proof's own; no program sees it"),
-    ("parts", "in_force"): ("(λ κs. apparent)", "as parts::section"),
+    ("handed_back", "section"): ("(λ κs. apparent)", "the ghost name of the reference handed back is the proof's own; no program sees it"),
+    ("handed_back", "in_force"): ("(λ κs. apparent)", "as handed_back::section"),
 }
 
 

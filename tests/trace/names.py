@@ -168,12 +168,13 @@ def lines(body):
 
 
 def quoted(body):
-    """Each line of a theorem that is quoted stands in the theorems' statements."""
-    stated = {s.strip() for crate in ("theorems", "laws") for s in text("crates", crate, "specs").splitlines()}
+    """Each statement that is quoted stands in the theorems' statements, however it is broken into lines."""
+    stated = " ".join(" ".join(text("crates", crate, "specs") for crate in ("theorems", "laws")).split())
     for block in re.findall(r"(?ms)^```text\n(.*?)^```", body):
-        for line in block.splitlines():
-            if line.strip():
-                want(line.strip() in stated, f"not in the theorems' statements: {line.strip()}")
+        for statement in block.split("\n\n"):
+            words = " ".join(statement.split())
+            if words:
+                want(words in stated, f"not in the theorems' statements: {words}")
 
 
 asked = {"definition": definitions, "contract": contracts, "theorem": theorems, "test": tests}

@@ -1,4 +1,5 @@
-// The two loops under reading and writing, for C to time alone beside the whole codec (bench/). Nothing else links this.
+// The two loops under reading and writing, for C to time alone beside the whole codec (bench/). Nothing else links
+// this.
 ghost use mathlib.Core.Path.{_≡_};
 ghost use lib.ListN.{length};
 ghost use Rattle.runs.specs.Take.{unpackFits, unpacked};

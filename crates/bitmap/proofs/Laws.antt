@@ -19,25 +19,30 @@ all-in bits at zero = refl
 all-in bits at (suc n) = add-one (count (presentBy Without bits) at n) ∙ ap suc (all-in bits at n)
 
 -- a bit of a part
-pub bit-part : (s : List ℕ) (a n j : ℕ) → j < n → bitsIn 8 s (a * 8 + j) ≡ bitsIn 8 (take (octetsFor n) (drop a s)) (0 + j)
+pub bit-part : (s : List ℕ) (a n j : ℕ) → j < n
+    → bitsIn 8 s (a * 8 + j) ≡ bitsIn 8 (take (octetsFor n) (drop a s)) (0 + j)
 unfolding bitsIn
 bit-part s a n j h =
     let e : (a * 8 + j) / 8 ≡ a + (0 + j) / 8 = omega arith in
     let f : (a * 8 + j) % 8 ≡ (0 + j) % 8 = omega arith in
     let l : (0 + j) / 8 < octetsFor n = omega arith in
     ap₂ (λ (x y : ℕ). bitOf 8 (getD s x 0) y) e f
-    ∙ ap (λ (x : ℕ). bitOf 8 x ((0 + j) % 8)) (sym (getD-drop a s ((0 + j) / 8) 0) ∙ sym (getD-take (octetsFor n) (drop a s) ((0 + j) / 8) 0 l))
+    ∙ ap (λ (x : ℕ). bitOf 8 x ((0 + j) % 8))
+    (sym (getD-drop a s ((0 + j) / 8) 0) ∙ sym (getD-take (octetsFor n) (drop a s) ((0 + j) / 8) 0 l))
 
 part : (s : List ℕ) (a n : ℕ) → count (bitsIn 8 s) (a * 8) n ≡ count (bitsIn 8 (take (octetsFor n) (drop a s))) 0 n
 part s a n = count-ext (bitsIn 8 s) (bitsIn 8 (take (octetsFor n) (drop a s))) (a * 8) 0 n (bit-part s a n)
 
-pub without : (s store : List ℕ) (p : Part) (n : ℕ) → n ≡ count (presentBy Without (bitmapOctets s store (inForce Without p n))) 0 n
+pub without : (s store : List ℕ) (p : Part) (n : ℕ)
+    → n ≡ count (presentBy Without (bitmapOctets s store (inForce Without p n))) 0 n
 without s store p n = sym (all-in (bitmapOctets s store (inForce Without p n)) 0 n)
 
-pub carried : (s store : List ℕ) (p : Part) (n r : ℕ) → r ≡ count (bitsIn 8 s) ((p .start + 6) * 8) n → r ≡ count (presentBy Carried (bitmapOctets s store (inForce Carried p n))) 0 n
+pub carried : (s store : List ℕ) (p : Part) (n r : ℕ) → r ≡ count (bitsIn 8 s) ((p .start + 6) * 8) n
+    → r ≡ count (presentBy Carried (bitmapOctets s store (inForce Carried p n))) 0 n
 unfolding presentBy bitmapOctets inForce
 carried s store p n r e = e ∙ part s (p .start + 6) n
 
-pub stored : (s store : List ℕ) (p : Part) (k n r : ℕ) → r ≡ count (bitsIn 8 store) (0 * 8) n → r ≡ count (presentBy (Stored k) (bitmapOctets s store (inForce (Stored k) p n))) 0 n
+pub stored : (s store : List ℕ) (p : Part) (k n r : ℕ) → r ≡ count (bitsIn 8 store) (0 * 8) n
+    → r ≡ count (presentBy (Stored k) (bitmapOctets s store (inForce (Stored k) p n))) 0 n
 unfolding presentBy bitmapOctets inForce
 stored s store p k n r e = e ∙ part store 0 n

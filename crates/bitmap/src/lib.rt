@@ -4,7 +4,7 @@ ghost use mathlib.Core.List.{[]};
 ghost use Rattle.rules.specs.Table.{anyOf};
 ghost use Rattle.bits.specs.Bits.{count};
 ghost use Rattle.rules.specs.declared.Bitmap.the-variants.{Carried, Stored};
-ghost use Rattle.rules.specs.Bitmap.{bitmapAt, bitmapFaults, inForce, bitmapOctets, presentBy};
+ghost use Rattle.rules.specs.Bitmap.{bitmapAt, bitmapFaults, inForce, bitmapOctets, presentBy, lentAs};
 use choices::less;
 use octets::octet;
 use octets::two;
@@ -36,7 +36,8 @@ fn carried_bad(s: &[u8], p: Part, n: u32) -> bool
 
 // "L is 6, octet 4 is 0", and of the lent bitmap "its number must be this one and its octets hold at least n bits".
 fn stored_bad(s: &[u8], number: u16, store: &[u8], p: Part, wanted: u16, n: u32) -> bool
-    ensures { λ r. ⌜ r ≡ anyOf (bitmapFaults (now (s .entry)) (record { number = number; octets = now (store .entry) }) p (Stored wanted) n) ⌝ }
+    ensures { λ r. ⌜ r ≡
+        anyOf (bitmapFaults (now (s .entry)) (lentAs number (now (store .entry))) p (Stored wanted) n) ⌝ }
 {
     (p.len != 6)
         | (octet(s, p.start as usize, 4) != 0)
@@ -45,9 +46,9 @@ fn stored_bad(s: &[u8], number: u16, store: &[u8], p: Part, wanted: u16, n: u32)
         | (store.len() < (n as usize + 7) / 8)
 }
 
-// Refusal 10 of a message.
+// Refusal 10 of a message: its bitmap breaks a rule, or no such bitmap is lent.
 pub fn bitmap_bad(s: &[u8], number: u16, store: &[u8], p: Part, bitmap: Bitmap, n: u32) -> bool
-    ensures { λ r. ⌜ r ≡ anyOf (bitmapFaults (now (s .entry)) (record { number = number; octets = now (store .entry) }) p bitmap n) ⌝ }
+    ensures { λ r. ⌜ r ≡ anyOf (bitmapFaults (now (s .entry)) (lentAs number (now (store .entry))) p bitmap n) ⌝ }
 {
     match bitmap {
         Bitmap::Without => false,
@@ -58,7 +59,8 @@ pub fn bitmap_bad(s: &[u8], number: u16, store: &[u8], p: Part, bitmap: Bitmap, 
 
 // How many of the n points are present.
 pub fn present(s: &[u8], store: &[u8], p: Part, bitmap: Bitmap, n: u32) -> u32
-    ensures { λ r. ⌜ r ≡ count (presentBy bitmap (bitmapOctets (now (s .entry)) (now (store .entry)) (inForce bitmap p n))) 0 n ⌝ }
+    ensures { λ r. ⌜ r ≡
+        count (presentBy bitmap (bitmapOctets (now (s .entry)) (now (store .entry)) (inForce bitmap p n))) 0 n ⌝ }
 {
     match bitmap {
         Bitmap::Without => n,

@@ -1,4 +1,5 @@
--- Document 01, "Values are taken one after another from the place reached in the caller's data octets": a number and the place after it.
+-- Document 01, "Values are taken one after another from the place reached in the caller's data octets": a number and
+-- the place after it.
 use Prim.Native.Nat.{ℕ, _+_}
 use mathlib.Core.Bool.{cond}
 use mathlib.Core.List.{List}

@@ -1,4 +1,5 @@
--- The tests over the numbers below a bound: what it says that one of them passes, that none does, and which is the least; by induction on the bound.
+-- The tests over the numbers below a bound: what it says that one of them passes, that none does, and which is the
+-- least; by induction on the bound.
 use Prim.Native.Nat.{ℕ, zero, suc, _+_, _≤_, _<_}
 use mathlib.Core.Bool.{Bool, true, false, _||_, cond}
 use mathlib.Core.Path.{_≡_, refl, sym, ap₂, subst, _∙_}
@@ -54,7 +55,8 @@ pub record One (f : ℕ → Bool) (n : ℕ) : Type 0 where
   pub below : at < n
   pub passes : f at ≡ true
 
-one-step : (f : ℕ → Bool) (n : ℕ) → (anyBelow f n ≡ true → One f n) → (anyBelow f n || f n) ≡ true → (a : Bool) → anyBelow f n ≡ a → (b : Bool) → f n ≡ b → One f (suc n)
+one-step : (f : ℕ → Bool) (n : ℕ) → (anyBelow f n ≡ true → One f n) → (anyBelow f n || f n) ≡ true → (a : Bool)
+    → anyBelow f n ≡ a → (b : Bool) → f n ≡ b → One f (suc n)
 one-step f n h e true p b q = let o = h p in record { at = o .at; below = omega arith; passes = o .passes }
 one-step f n h e false p true q = record { at = n; below = omega arith; passes = q }
 one-step f n h e false p false q = absurd (subst T (sym e ∙ or-none (anyBelow f n) (f n) p q) tt)
@@ -70,7 +72,8 @@ pub record Least (f : ℕ → Bool) (n b : ℕ) : Type 0 where
   pub passes : b < n → f b ≡ true
   pub before : (k : ℕ) → k < b → f k ≡ false
 
-least-step : (f : ℕ → Bool) (n b : ℕ) → Least f n b → (t : Bool) → ltb b n ≡ t → (p : Bool) → f n ≡ p → Least f (suc n) (cond t b (cond p n (suc n)))
+least-step : (f : ℕ → Bool) (n b : ℕ) → Least f n b → (t : Bool) → ltb b n ≡ t → (p : Bool) → f n ≡ p
+    → Least f (suc n) (cond t b (cond p n (suc n)))
 least-step f n b h true e p q =
     let l : b < n = ltb-true b n e in
     record { within = omega (arith, l); passes = λ _. h .passes l; before = h .before }

@@ -1,4 +1,5 @@
--- The bits of a part of a list of octets: the octets cut out have the bits that stand there, and bits that agree with them make the octets again.
+-- The bits of a part of a list of octets: the octets cut out have the bits that stand there, and bits that agree with
+-- them make the octets again.
 use Prim.Native.Nat.{ℕ, zero, suc, _+_, _*_, _/_, _%_, _^_, _≤_, _<_}
 use mathlib.Core.Path.{_≡_, sym, subst, _∙_, ap, ap₂}
 use mathlib.Core.List.{List, [], _∷_, _++_}
@@ -28,7 +29,8 @@ unfolding bitsIn
 bits-take m s i h = ap (λ (x : ℕ). bitOf 8 x (i % 8)) (getD-take m s (i / 8) 0 (div-lt-iff-lt-mul (zero-lt-suc 7) .1 h))
 
 -- a number in a part of the octets
-pub run-part : (s : List ℕ) (p n at w : ℕ) → at + w ≤ n * 8 → run (bitsIn 8 (take n (drop p s))) at w ≡ run (bitsIn 8 s) (p * 8 + at) w
+pub run-part : (s : List ℕ) (p n at w : ℕ) → at + w ≤ n * 8
+    → run (bitsIn 8 (take n (drop p s))) at w ≡ run (bitsIn 8 s) (p * 8 + at) w
 run-part s p n at w l =
     run-ext (bitsIn 8 (take n (drop p s))) (bitsIn 8 s) at (p * 8 + at) w
     (λ k h.
@@ -41,20 +43,26 @@ pub run-at : (s : List ℕ) (k : ℕ) (p rest : List ℕ) (j c : ℕ) → drop k
 run-at s k p rest j c e h = run-ext (bitsIn 8 s) (bitsIn 8 p) ((k + j) * 8) (j * 8) (c * 8)
     (λ i l.
     let a : (k + j) * 8 + i ≡ k * 8 + (j * 8 + i) = omega arith in
-    ap (bitsIn 8 s) a ∙ bits-drop k s (j * 8 + i) ∙ ap (λ (x : List ℕ). bitsIn 8 x (j * 8 + i)) e ∙ bits-left 8 p rest (j * 8 + i) (omega arith))
+    ap (bitsIn 8 s) a ∙ bits-drop k s (j * 8 + i) ∙ ap (λ (x : List ℕ). bitsIn 8 x (j * 8 + i)) e
+    ∙ bits-left 8 p rest (j * 8 + i) (omega arith))
 
 pub wide-drop : (k : ℕ) (s : List ℕ) → Wide 8 s → Wide 8 (drop k s)
 wide-drop k s w i = subst (λ (x : ℕ). x < 256) (sym (getD-drop k s i 0)) (w (k + i))
 
 -- bits that agree with those from octet k on make those octets
-pub octets-here : (s : List ℕ) (k c : ℕ) (f : ℕ → ℕ) → Wide 8 s → k + c ≤ length s → ((i : ℕ) → i < c * 8 → f i ≡ bitsIn 8 s (k * 8 + i)) → runs f 0 8 c ≡ take c (drop k s)
+pub octets-here : (s : List ℕ) (k c : ℕ) (f : ℕ → ℕ) → Wide 8 s → k + c ≤ length s
+    → ((i : ℕ) → i < c * 8 → f i ≡ bitsIn 8 s (k * 8 + i)) → runs f 0 8 c ≡ take c (drop k s)
 octets-here s k c f w l e =
-    runs-ext f (bitsIn 8 (drop k s)) 0 0 8 c (λ i h. ap f (zero-add i) ∙ e i h ∙ bits-drop k s i ∙ ap (bitsIn 8 (drop k s)) (sym (zero-add i)))
+    runs-ext f (bitsIn 8 (drop k s)) 0 0 8 c
+    (λ i h. ap f (zero-add i) ∙ e i h ∙ bits-drop k s i ∙ ap (bitsIn 8 (drop k s)) (sym (zero-add i)))
     ∙ runs-own 8 (drop k s) c (wide-drop k s w) (subst (λ (x : ℕ). c ≤ x) (sym (length-drop k s)) (omega arith))
 
 -- the octets of a number read are those it was read from
-pub number-here : (s : List ℕ) (k c : ℕ) → Wide 8 s → k + c ≤ length s → runs (bitOf (c * 8) (run (bitsIn 8 s) (k * 8) (c * 8))) 0 8 c ≡ take c (drop k s)
-number-here s k c w l = octets-here s k c (bitOf (c * 8) (run (bitsIn 8 s) (k * 8) (c * 8))) w l (λ i h. bit-run (bitsIn-bits 8 s) (k * 8) (c * 8) i h)
+pub number-here : (s : List ℕ) (k c : ℕ) → Wide 8 s → k + c ≤ length s
+    → runs (bitOf (c * 8) (run (bitsIn 8 s) (k * 8) (c * 8))) 0 8 c ≡ take c (drop k s)
+number-here s k c w l =
+    octets-here s k c (bitOf (c * 8) (run (bitsIn 8 s) (k * 8) (c * 8))) w l
+    (λ i h. bit-run (bitsIn-bits 8 s) (k * 8) (c * 8) i h)
 
 -- one number more
 pub wide-snoc : (n : ℕ) (xs : List ℕ) (v : ℕ) → Wide n xs → v < 2 ^ n → Wide n (xs ++ (v ∷ []))

@@ -1,4 +1,5 @@
--- Marks, one bit each: a table of them is a list of numbers of one bit; and what it says that there is a one among them, or none.
+-- Marks, one bit each: a table of them is a list of numbers of one bit; and what it says that there is a one among
+-- them, or none.
 use Prim.Native.Nat.{ℕ, zero, suc, _+_, _*_, _≤_, _<_}
 use mathlib.Core.Path.{_≡_, sym, subst, _∙_, ap}
 use mathlib.Core.Logic.{⊎-elim}
@@ -16,7 +17,8 @@ use Rattle.bits.proofs.Below.{upto}
 pub wide-tab : (f : ℕ → ℕ) (n : ℕ) → Bits f → Wide 1 (tab f n)
 wide-tab f n b k = ⊎-elim
     (λ l. subst (λ (x : ℕ). x < 2) (sym (getD-tab f n k 0 l)) (b k))
-    (λ g. subst (λ (x : ℕ). x < 2) (sym (List·getD-eq-default (tab f n) 0 (subst (λ (x : ℕ). x ≤ k) (sym (length-tab f n)) g))) (omega arith))
+    (λ g. subst (λ (x : ℕ). x < 2)
+    (sym (List·getD-eq-default (tab f n) 0 (subst (λ (x : ℕ). x ≤ k) (sym (length-tab f n)) g))) (omega arith))
     (lt-or-ge k n)
 
 bit-of-one : (x : ℕ) → x < 2 → bitOf 1 x 0 ≡ x
@@ -26,7 +28,8 @@ bit-of-one x h = omega arith
 pub mark-bit : (f : ℕ → ℕ) (n : ℕ) → Bits f → (i : ℕ) → i < n → bitsIn 1 (tab f n) i ≡ f i
 mark-bit f n b i l =
     let e : i ≡ i * 1 + 0 = omega arith in
-    ap (bitsIn 1 (tab f n)) e ∙ bits-at 1 (tab f n) i 0 (omega arith) ∙ ap (λ (x : ℕ). bitOf 1 x 0) (getD-tab f n i 0 l) ∙ bit-of-one (f i) (b i)
+    ap (bitsIn 1 (tab f n)) e ∙ bits-at 1 (tab f n) i 0 (omega arith) ∙ ap (λ (x : ℕ). bitOf 1 x 0) (getD-tab f n i 0 l)
+    ∙ bit-of-one (f i) (b i)
 
 -- no ones, no bit is one; and back
 pub zeros-of : (f : ℕ → ℕ) (a n : ℕ) → count f a n ≡ 0 → (i : ℕ) → i < n → f (a + i) ≡ 0

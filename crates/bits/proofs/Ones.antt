@@ -24,7 +24,8 @@ pub ones-run : {f : ℕ → ℕ} → Bits f → (at n : ℕ) → ones (run f at 
 unfolding run count ones
 ones-run b at zero = refl
 ones-run {f} b at (suc n) =
-    ones-cat 1 (run f at n) (f (at + n)) (b (at + n)) ∙ ap₂ (λ (x y : ℕ). x + y) (ones-run b at n) (ones-bit (f (at + n)) (b (at + n)))
+    ones-cat 1 (run f at n) (f (at + n)) (b (at + n))
+    ∙ ap₂ (λ (x y : ℕ). x + y) (ones-run b at n) (ones-bit (f (at + n)) (b (at + n)))
 
 pub count-split : (f : ℕ → ℕ) (at m n : ℕ) → count f at (m + n) ≡ count f at m + count f (at + m) n
 unfolding count
@@ -34,7 +35,8 @@ count-split f at m (suc n) = rw (add-suc, count-split f at m n) (omega (arith, a
 pub count-ext : (f g : ℕ → ℕ) (a b n : ℕ) → ((j : ℕ) → j < n → f (a + j) ≡ g (b + j)) → count f a n ≡ count g b n
 unfolding count
 count-ext f g a b zero h = refl
-count-ext f g a b (suc n) h = ap₂ (λ (x y : ℕ). x + y) (count-ext f g a b n (λ j k. h j (omega arith))) (h n (omega arith))
+count-ext f g a b (suc n) h =
+    ap₂ (λ (x y : ℕ). x + y) (count-ext f g a b n (λ j k. h j (omega arith))) (h n (omega arith))
 
 pub count-le : {f : ℕ → ℕ} → Bits f → (at n : ℕ) → count f at n ≤ n
 unfolding count
@@ -49,7 +51,8 @@ count-octet s k j h =
     let p : k * 8 + j * 8 ≡ (k + j) * 8 = omega arith in
     ap (count (bitsIn 8 s) (k * 8)) e ∙ count-split (bitsIn 8 s) (k * 8) (j * 8) 8
     ∙ ap (λ (x : ℕ). count (bitsIn 8 s) (k * 8) (j * 8) + x)
-    (ap (λ (a : ℕ). count (bitsIn 8 s) a 8) p ∙ sym (ones-run (bitsIn-bits 8 s) ((k + j) * 8) 8) ∙ ap ones (run-unit 8 s (k + j) h))
+    (ap (λ (a : ℕ). count (bitsIn 8 s) a 8) p ∙ sym (ones-run (bitsIn-bits 8 s) ((k + j) * 8) 8)
+    ∙ ap ones (run-unit 8 s (k + j) h))
 
 -- the first r bits of an octet, under a mask
 pub ones-mask : (s : List ℕ) (k r : ℕ) → getD s k 0 < 256 → r < 8
@@ -63,7 +66,9 @@ ones-mask s k r h l =
     ap (λ (y : ℕ). ones (bitAnd x (2 ^ y - 2 ^ q))) (sym e)
     ∙ ap ones (and-high x r q ∙ ap (λ (y : ℕ). y * 2 ^ q) (mod-eq-of-lt t) ∙ sym (add-zero (x / 2 ^ q * 2 ^ q)))
     ∙ ones-cat q (x / 2 ^ q) 0 (pow-pos q) ∙ add-zero (ones (x / 2 ^ q))
-    ∙ ap ones (sym (run-ext (bitsIn 8 s) (bitOf 8 x) (k * 8) 0 r (λ j i. bits-at 8 s k j (omega arith) ∙ ap (bitOf 8 x) (sym (zero-add j)))
+    ∙ ap ones
+    (sym (run-ext (bitsIn 8 s) (bitOf 8 x) (k * 8) 0 r
+    (λ j i. bits-at 8 s k j (omega arith) ∙ ap (bitOf 8 x) (sym (zero-add j)))
     ∙ run-top 8 x r h (omega arith)))
     ∙ ones-run (bitsIn-bits 8 s) (k * 8) r
 
@@ -83,12 +88,15 @@ count-mono f at i m h =
     omega (arith, count-split f at i (m - i), ap (count f at) e)
 
 -- eight octets more
-pub count-eight : (s : List ℕ) (k j : ℕ) → count (bitsIn 8 s) (k * 8) ((j + 8) * 8) ≡ count (bitsIn 8 s) (k * 8) (j * 8) + ones (run (bitsIn 8 s) ((k + j) * 8) 64)
+pub count-eight : (s : List ℕ) (k j : ℕ)
+    → count (bitsIn 8 s) (k * 8) ((j + 8) * 8)
+    ≡ count (bitsIn 8 s) (k * 8) (j * 8) + ones (run (bitsIn 8 s) ((k + j) * 8) 64)
 count-eight s k j =
     let e : (j + 8) * 8 ≡ j * 8 + 64 = omega arith in
     let p : k * 8 + j * 8 ≡ (k + j) * 8 = omega arith in
     ap (count (bitsIn 8 s) (k * 8)) e ∙ count-split (bitsIn 8 s) (k * 8) (j * 8) 64
-    ∙ ap (λ (y : ℕ). count (bitsIn 8 s) (k * 8) (j * 8) + y) (ap (λ (y : ℕ). count (bitsIn 8 s) y 64) p ∙ sym (ones-run (bitsIn-bits 8 s) ((k + j) * 8) 64))
+    ∙ ap (λ (y : ℕ). count (bitsIn 8 s) (k * 8) (j * 8) + y)
+    (ap (λ (y : ℕ). count (bitsIn 8 s) y 64) p ∙ sym (ones-run (bitsIn-bits 8 s) ((k + j) * 8) 64))
 
 -- past the end there are no ones
 pub count-zero : (f : ℕ → ℕ) (at n : ℕ) → ((j : ℕ) → j < n → f (at + j) ≡ 0) → count f at n ≡ 0
@@ -99,9 +107,11 @@ count-zero f at (suc n) h = ap₂ (λ (x y : ℕ). x + y) (count-zero f at n (λ
 pub count-past : (s : List ℕ) (at n : ℕ) → Wide 8 s → length s * 8 ≤ at → count (bitsIn 8 s) at n ≡ 0
 count-past s at n w h = count-zero (bitsIn 8 s) at n (λ j l. bits-past 8 s (at + j) w (omega arith))
 
-pub count-inside : (s : List ℕ) (p r c : ℕ) → Wide 8 s → r ≤ c → length s ≤ p + r → count (bitsIn 8 s) (p * 8) (r * 8) ≡ count (bitsIn 8 s) (p * 8) (c * 8)
+pub count-inside : (s : List ℕ) (p r c : ℕ) → Wide 8 s → r ≤ c → length s ≤ p + r
+    → count (bitsIn 8 s) (p * 8) (r * 8) ≡ count (bitsIn 8 s) (p * 8) (c * 8)
 count-inside s p r c w h l =
     let e : r * 8 + (c - r) * 8 ≡ c * 8 = omega arith in
     sym (ap (count (bitsIn 8 s) (p * 8)) (sym e) ∙ count-split (bitsIn 8 s) (p * 8) (r * 8) ((c - r) * 8)
-    ∙ ap (λ (y : ℕ). count (bitsIn 8 s) (p * 8) (r * 8) + y) (count-past s (p * 8 + r * 8) ((c - r) * 8) w (omega arith))
+    ∙ ap (λ (y : ℕ). count (bitsIn 8 s) (p * 8) (r * 8) + y)
+    (count-past s (p * 8 + r * 8) ((c - r) * 8) w (omega arith))
     ∙ add-zero (count (bitsIn 8 s) (p * 8) (r * 8)))

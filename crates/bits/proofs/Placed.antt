@@ -3,7 +3,8 @@
 use mathlib.Core.Path.{_≡_, refl, sym, ap, ap₂, _∙_, subst}
 use mathlib.Core.List.{List, [], _∷_, _++_, append-assoc, append-nil}
 use Prim.Native.Nat.{ℕ, zero, suc, _+_, _-_, _*_, _/_, _%_, _^_, _≤_, _<_}
-use native.Mathlib.Nat.{zero-add, add-zero, add-suc, add-mul, add-assoc, one-mul, zero-mul, lt-of-lt-of-le, div-add-mod'}
+use native.Mathlib.Nat.{zero-add, add-zero, add-suc, add-mul, add-assoc, one-mul, zero-mul, lt-of-lt-of-le}
+use native.Mathlib.Nat.{div-add-mod'}
 use native.Mathlib.Omega.{arith}
 use lib.Arith.{digits-lt}
 use lib.Pow.{pow-pos, pow-mono, pow-add, shr-lt, shl-exact}
@@ -13,7 +14,8 @@ use lib.ListN.{length, getD, take, drop, length-take, List·getD-eq-default}
 use lib.Seq.{getD-take, take-suc, length-take-le}
 use Rattle.bits.specs.Bits.{bitOf, bitsIn, run, runs, join, octetsFor, putAt, numberAt, packedInto}
 use Rattle.bits.specs.Tables.{tab}
-use Rattle.bits.proofs.Runs.{Bits, bitsIn-bits, bitOf-bits, run-word, run-lt, run-ext, run-split, run-top, run-unit, bits-at, lt-or-ge}
+use Rattle.bits.proofs.Runs.{Bits, bitsIn-bits, bitOf-bits, run-word, run-lt, run-ext, run-split, run-top}
+use Rattle.bits.proofs.Runs.{run-unit, bits-at, lt-or-ge}
 use Rattle.bits.proofs.Trip.{Wide, bits-runs, runs-ext, runs-own, bit-run, bits-past}
 use Rattle.bits.proofs.Next.{bits-after, join-lt, join-ge, join-bits, put-packedInto}
 
@@ -38,7 +40,8 @@ wide-one n v h (suc k) = pow-pos n
 -- the octets of a number are its bits eight at a time
 pub runs-number : {f : ℕ → ℕ} → Bits f → (a c : ℕ) → runs (bitOf (c * 8) (run f a (c * 8))) 0 8 c ≡ runs f a 8 c
 runs-number {f} b a c =
-    runs-ext (bitOf (c * 8) (run f a (c * 8))) f 0 a 8 c (λ i l. ap (bitOf (c * 8) (run f a (c * 8))) (zero-add i) ∙ bit-run b a (c * 8) i l)
+    runs-ext (bitOf (c * 8) (run f a (c * 8))) f 0 a 8 c
+    (λ i l. ap (bitOf (c * 8) (run f a (c * 8))) (zero-add i) ∙ bit-run b a (c * 8) i l)
 
 module _ (s : List ℕ) (at n v : ℕ) (b : Wide 8 s) (h : v < 2 ^ n) where
   unfoldable pub F : ℕ → ℕ
@@ -67,19 +70,23 @@ module _ (s : List ℕ) (at n v : ℕ) (b : Wide 8 s) (h : v < 2 ^ n) where
   kept : run F (k * 8) skip ≡ getD s k 0 / 2 ^ (8 - skip)
   kept =
       run-ext F (bitOf 8 (getD s k 0)) (k * 8) 0 skip
-      (λ j l. before (k * 8 + j) (omega arith) ∙ bits-at 8 s k j (omega arith) ∙ ap (bitOf 8 (getD s k 0)) (sym (zero-add j)))
+      (λ j l. before (k * 8 + j) (omega arith) ∙ bits-at 8 s k j (omega arith)
+      ∙ ap (bitOf 8 (getD s k 0)) (sym (zero-add j)))
       ∙ run-top 8 (getD s k 0) skip (b k) (omega arith)
 
   value : run F at n ≡ v
   value =
-      run-ext F (bitsIn n (v ∷ [])) at (0 * n) n (λ j l. after j ∙ ap (bitsIn n (v ∷ [])) (sym (zero-add j) ∙ ap (λ (x : ℕ). x + j) (sym (zero-mul n))))
+      run-ext F (bitsIn n (v ∷ [])) at (0 * n) n
+      (λ j l. after j ∙ ap (bitsIn n (v ∷ [])) (sym (zero-add j) ∙ ap (λ (x : ℕ). x + j) (sym (zero-mul n))))
       ∙ run-unit n (v ∷ []) 0 h
 
   zeros : (r : ℕ) → run F (at + n) r ≡ 0
   zeros r = run-zero F (at + n) r
-      (λ j l. ap F (add-assoc at n j) ∙ after (n + j) ∙ bits-past n (v ∷ []) (n + j) (wide-one n v h) (omega (arith, one-mul n)))
+      (λ j l. ap F (add-assoc at n j) ∙ after (n + j)
+      ∙ bits-past n (v ∷ []) (n + j) (wide-one n v h) (omega (arith, one-mul n)))
 
-  pub all-law : (c r : ℕ) → skip + n + r ≡ c * 8 → (getD s k 0 / 2 ^ (8 - skip) * 2 ^ n + v) * 2 ^ r ≡ run F (k * 8) (c * 8)
+  pub all-law : (c r : ℕ) → skip + n + r ≡ c * 8
+      → (getD s k 0 / 2 ^ (8 - skip) * 2 ^ n + v) * 2 ^ r ≡ run F (k * 8) (c * 8)
   all-law c r e =
       let q : k * 8 + skip ≡ at = div-add-mod' at 8 in
       sym (ap (run F (k * 8)) (sym e) ∙ run-split F (k * 8) (skip + n) r
@@ -88,12 +95,15 @@ module _ (s : List ℕ) (at n v : ℕ) (b : Wide 8 s) (h : v < 2 ^ n) where
       (ap (λ (x : ℕ). run F x r) (sym (add-assoc (k * 8) skip n) ∙ ap (λ (x : ℕ). x + n) q) ∙ zeros r)
       ∙ add-zero ((getD s k 0 / 2 ^ (8 - skip) * 2 ^ n + v) * 2 ^ r))
 
-  pub put-law : (c : ℕ) → k + c ≡ octetsFor (at + n) → k ≤ length s → numberAt s k c (run F (k * 8) (c * 8)) ≡ putAt s at n v
+  pub put-law : (c : ℕ) → k + c ≡ octetsFor (at + n) → k ≤ length s
+      → numberAt s k c (run F (k * 8) (c * 8)) ≡ putAt s at n v
   unfolding numberAt putAt F
   put-law c e l =
       ap (λ (x : List ℕ). x ++ drop (k + c) s)
       (ap₂ (λ (x y : List ℕ). x ++ y)
-      (sym (runs-own 8 s k b l) ∙ sym (runs-ext F (bitsIn 8 s) 0 0 8 k (λ i j. ap F (zero-add i) ∙ before i (omega arith) ∙ ap (bitsIn 8 s) (sym (zero-add i)))))
+      (sym (runs-own 8 s k b l)
+      ∙ sym (runs-ext F (bitsIn 8 s) 0 0 8 k
+      (λ i j. ap F (zero-add i) ∙ before i (omega arith) ∙ ap (bitsIn 8 s) (sym (zero-add i)))))
       (runs-number bitsF (k * 8) c ∙ ap (λ (x : ℕ). runs F x 8 c) (sym (zero-add (k * 8))))
       ∙ sym (runs-split F 0 8 k c))
       ∙ ap (λ (x : ℕ). runs F 0 8 x ++ drop x s) e
@@ -122,7 +132,8 @@ module _ (s : List ℕ) (at n v : ℕ) (b : Wide 8 s) (h : v < 2 ^ n) where
       → (getD s k 0 / 2 ^ (8 - skip) * 2 ^ n % 2 ^ 64 + v) * 2 ^ r % 2 ^ 64 ≡ run F (k * 8) (c * 8)
   unfolding top
   machine m c r e l =
-      ap (λ (y : ℕ). (y + v) * 2 ^ r % 2 ^ 64) (first-shift m) ∙ shl-exact (skip + n) r 64 sum-lt (omega arith) ∙ all-law c r e
+      ap (λ (y : ℕ). (y + v) * 2 ^ r % 2 ^ 64) (first-shift m) ∙ shl-exact (skip + n) r 64 sum-lt (omega arith)
+      ∙ all-law c r e
 
   pub all-lt : (c : ℕ) → run F (k * 8) (c * 8) < 2 ^ (c * 8)
   all-lt c = run-lt bitsF (k * 8) (c * 8)
@@ -131,7 +142,8 @@ pub wide-take : (n : ℕ) (vs : List ℕ) (m : ℕ) → Wide n vs → Wide n (ta
 wide-take n vs m h k = ⊎-elim
     (λ l. subst (λ (x : ℕ). x < 2 ^ n) (sym (getD-take m vs k 0 l)) (h k))
     (λ g. subst (λ (x : ℕ). x < 2 ^ n)
-    (sym (List·getD-eq-default (take m vs) 0 (subst (λ (x : ℕ). x ≤ k) (sym (length-take m vs)) (omega arith)))) (pow-pos n))
+    (sym (List·getD-eq-default (take m vs) 0 (subst (λ (x : ℕ). x ≤ k) (sym (length-take m vs)) (omega arith))))
+    (pow-pos n))
     (lt-or-ge k m)
 
 -- the loop that packs: where it begins, and a turn
@@ -150,7 +162,8 @@ pack-turn n vs s i h l =
     ∙ ap (λ (x : List ℕ). packedInto n x s) e
 
 -- a number that was put is read back
-pub number-back : (s : List ℕ) (k c x : ℕ) → k + c ≤ length s → x < 2 ^ (c * 8) → run (bitsIn 8 (numberAt s k c x)) (k * 8) (c * 8) ≡ x
+pub number-back : (s : List ℕ) (k c x : ℕ) → k + c ≤ length s → x < 2 ^ (c * 8)
+    → run (bitsIn 8 (numberAt s k c x)) (k * 8) (c * 8) ≡ x
 unfolding numberAt
 number-back s k c x l h =
     let f = bitOf (c * 8) x in

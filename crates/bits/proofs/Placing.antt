@@ -23,7 +23,8 @@ unfolding placed
 length-placed d at p h = simp (length-append, length-take-le at d (omega arith), length-drop) (omega arith)
 
 -- what is put right after what was put
-pub placed-next : (d : List ℕ) (at : ℕ) (p q : List ℕ) → at + length p + length q ≤ length d → placed (placed d at p) (at + length p) q ≡ placed d at (p ++ q)
+pub placed-next : (d : List ℕ) (at : ℕ) (p q : List ℕ) → at + length p + length q ≤ length d
+    → placed (placed d at p) (at + length p) q ≡ placed d at (p ++ q)
 unfolding placed
 placed-next d at p q h =
     let A = take at d in
@@ -33,23 +34,27 @@ placed-next d at p q h =
     let whole : A ++ (p ++ D) ≡ (A ++ p) ++ D = sym (append-assoc A p D) in
     ap₂ (λ (x y : List ℕ). x ++ (q ++ y))
     (ap (take (at + length p)) whole ∙ take-at (A ++ p) D (at + length p) front)
-    (ap (drop (at + length p + length q)) whole ∙ sym (drop-drop (length q) (at + length p) ((A ++ p) ++ D)) ∙ ap (drop (length q)) (drop-at (A ++ p) D (at + length p) front) ∙ drop-drop (length q) (at + length p) d)
+    (ap (drop (at + length p + length q)) whole ∙ sym (drop-drop (length q) (at + length p) ((A ++ p) ++ D))
+    ∙ ap (drop (length q)) (drop-at (A ++ p) D (at + length p) front) ∙ drop-drop (length q) (at + length p) d)
     ∙ append-assoc A p (q ++ drop (at + length p + length q) d)
     ∙ ap (λ (x : List ℕ). A ++ x) (sym (append-assoc p q (drop (at + length p + length q) d)))
-    ∙ ap (λ (x : ℕ). A ++ ((p ++ q) ++ drop x d)) (add-assoc at (length p) (length q) ∙ ap (λ (x : ℕ). at + x) (sym (length-append p q)))
+    ∙ ap (λ (x : ℕ). A ++ ((p ++ q) ++ drop x d))
+    (add-assoc at (length p) (length q) ∙ ap (λ (x : ℕ). at + x) (sym (length-append p q)))
 
 -- a number put into octets
 pub number-placed : (d : List ℕ) (k c x : ℕ) → numberAt d k c x ≡ placed d k (runs (bitOf (c * 8) x) 0 8 c)
 unfolding numberAt placed
 number-placed d k c x =
     let R = runs (bitOf (c * 8) x) 0 8 c in
-    append-assoc (take k d) R (drop (k + c) d) ∙ ap (λ (y : ℕ). take k d ++ (R ++ drop (k + y) d)) (sym (length-runs (bitOf (c * 8) x) 0 8 c))
+    append-assoc (take k d) R (drop (k + c) d)
+    ∙ ap (λ (y : ℕ). take k d ++ (R ++ drop (k + y) d)) (sym (length-runs (bitOf (c * 8) x) 0 8 c))
 
 -- one element
 pub set-placed : (d : List ℕ) (at v : ℕ) → at < length d → set d at v ≡ placed d at (v ∷ [])
 unfolding placed
 set-placed d at v h =
     let l : length (take at d) ≡ at = length-take-le at d (omega arith) in
-    ap (λ (x : List ℕ). set x at v) (sym (take-append-drop at d) ∙ ap (λ (x : List ℕ). take at d ++ x) (drop-cons d at 0 h))
+    ap (λ (x : List ℕ). set x at v)
+    (sym (take-append-drop at d) ∙ ap (λ (x : List ℕ). take at d ++ x) (drop-cons d at 0 h))
     ∙ set-at (take at d) _ (drop (suc at) d) v at l
     ∙ ap (λ (x : ℕ). take at d ++ (v ∷ drop x d)) (sym (add-one at))

@@ -1,4 +1,5 @@
--- A product is below a bound where its factors are within theirs and the bounds' product is, by monotony; a product above a number has two factors.
+-- A product is below a bound where its factors are within theirs and the bounds' product is, by monotony; a product
+-- above a number has two factors.
 use Prim.Native.Nat.{ℕ, zero, suc, _*_, _≤_, _<_}
 use native.Mathlib.Nat.{mul-le-mul, lt-of-le-of-lt, mul-zero, zero-mul}
 use native.Mathlib.Omega.{arith}

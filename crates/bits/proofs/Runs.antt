@@ -1,7 +1,9 @@
 -- The laws of runs of bits.
 use mathlib.Core.Path.{_≡_, refl, sym, ap, ap₂, _∙_, subst}
 use Prim.Native.Nat.{ℕ, zero, suc, _+_, _-_, _*_, _/_, _%_, _^_, _≤_, _<_}
-use native.Mathlib.Nat.{add-zero, add-suc, add-assoc, add-mul, mul-assoc, pow-suc, mod-lt, zero-lt-suc, zero-sub, div-zero, div-one, div-eq-of-lt, div-add-mod', div-div-eq-div-mul, zero-add, one-mul, lt-of-lt-of-le, mul-le-mul-right}
+use native.Mathlib.Nat.{add-zero, add-suc, add-assoc, add-mul, mul-assoc, pow-suc, mod-lt, zero-lt-suc, zero-sub}
+use native.Mathlib.Nat.{div-zero, div-one, div-eq-of-lt, div-add-mod', div-div-eq-div-mul, zero-add, one-mul}
+use native.Mathlib.Nat.{lt-of-lt-of-le, mul-le-mul-right}
 use native.Mathlib.Numerals.{add-one-le}
 use native.Mathlib.Omega.{arith}
 use mathlib.Core.List.{List}
@@ -25,7 +27,8 @@ bitsIn-bits w xs i = mod-lt (getD xs (i / w) 0 / 2 ^ (w - 1 - i % w)) (zero-lt-s
 pub no-width : (xs : List ℕ) (i : ℕ) → bitsIn 0 xs i ≡ getD xs 0 0 % 2
 unfolding bitsIn bitOf
 no-width xs i =
-    ap₂ (λ (k e : ℕ). getD xs k 0 / 2 ^ e % 2) (div-zero i) (zero-sub (i % 0)) ∙ ap (λ (x : ℕ). x % 2) (div-one (getD xs 0 0))
+    ap₂ (λ (k e : ℕ). getD xs k 0 / 2 ^ e % 2) (div-zero i) (zero-sub (i % 0))
+    ∙ ap (λ (x : ℕ). x % 2) (div-one (getD xs 0 0))
 
 -- (d) n bits make a number below 2 ^ n
 pub run-lt : {f : ℕ → ℕ} → Bits f → (at n : ℕ) → run f at n < 2 ^ n
@@ -44,7 +47,8 @@ run-split f at m (suc n) =
 pub run-ext : (f g : ℕ → ℕ) (a b n : ℕ) → ((j : ℕ) → j < n → f (a + j) ≡ g (b + j)) → run f a n ≡ run g b n
 unfolding run
 run-ext f g a b zero h = refl
-run-ext f g a b (suc n) h = ap₂ (λ (x y : ℕ). x * 2 + y) (run-ext f g a b n (λ j k. h j (omega arith))) (h n (omega arith))
+run-ext f g a b (suc n) h =
+    ap₂ (λ (x y : ℕ). x * 2 + y) (run-ext f g a b n (λ j k. h j (omega arith))) (h n (omega arith))
 
 -- n bits out of a longer run: drop the r bits after them, and the bits before them
 pub run-field : {f : ℕ → ℕ} → Bits f → (at i n r : ℕ) → run f at (i + n + r) / 2 ^ r % 2 ^ n ≡ run f (at + i) n
@@ -62,7 +66,9 @@ run-top w x (suc m) h k =
     let e : w - m ≡ suc (w - suc m) = omega arith in
     let p : w - 1 - (0 + m) ≡ w - suc m = omega arith in
     ap₂ (λ (a b : ℕ). a * 2 + x / 2 ^ b % 2) (run-top w x m h (omega arith)) p
-    ∙ ap (λ (a : ℕ). a * 2 + x / 2 ^ (w - suc m) % 2) (ap (λ (b : ℕ). x / 2 ^ b) e ∙ ap (λ (b : ℕ). x / b) (pow-suc 2 (w - suc m)) ∙ sym (div-div-eq-div-mul x (2 ^ (w - suc m)) 2))
+    ∙ ap (λ (a : ℕ). a * 2 + x / 2 ^ (w - suc m) % 2)
+    (ap (λ (b : ℕ). x / 2 ^ b) e ∙ ap (λ (b : ℕ). x / b) (pow-suc 2 (w - suc m))
+    ∙ sym (div-div-eq-div-mul x (2 ^ (w - suc m)) 2))
     ∙ div-add-mod' (x / 2 ^ (w - suc m)) 2
 
 -- the bits of a number of w bits make the number
@@ -89,7 +95,8 @@ run-octet s k j h =
     let e : (j + 1) * 8 ≡ j * 8 + 8 = omega arith in
     let p : k * 8 + j * 8 ≡ (k + j) * 8 = omega arith in
     ap (run (bitsIn 8 s) (k * 8)) e ∙ run-split (bitsIn 8 s) (k * 8) (j * 8) 8
-    ∙ ap (λ (x : ℕ). run (bitsIn 8 s) (k * 8) (j * 8) * 256 + x) (ap (λ (a : ℕ). run (bitsIn 8 s) a 8) p ∙ run-unit 8 s (k + j) h)
+    ∙ ap (λ (x : ℕ). run (bitsIn 8 s) (k * 8) (j * 8) * 256 + x)
+    (ap (λ (a : ℕ). run (bitsIn 8 s) a 8) p ∙ run-unit 8 s (k + j) h)
 
 -- at most m bits make a number below 2 ^ m
 pub run-below : {f : ℕ → ℕ} → Bits f → (at n m : ℕ) → n ≤ m → run f at n < 2 ^ m
@@ -126,8 +133,10 @@ unfolding bitOf
 bitOf-bits w x j = mod-lt (x / 2 ^ (w - 1 - j)) (zero-lt-suc 1)
 
 -- octet j of a number of c octets
-pub octet-of : (x c j : ℕ) → x < 2 ^ (c * 8) → j < c → x / 2 ^ ((c - 1 - j) * 8) % 256 ≡ run (bitOf (c * 8) x) (0 + j * 8) 8
+pub octet-of : (x c j : ℕ) → x < 2 ^ (c * 8) → j < c
+    → x / 2 ^ ((c - 1 - j) * 8) % 256 ≡ run (bitOf (c * 8) x) (0 + j * 8) 8
 octet-of x c j h l =
     let r = (c - 1 - j) * 8 in
     let e : c * 8 ≡ j * 8 + 8 + r = omega arith in
-    ap (λ (y : ℕ). y / 2 ^ r % 256) (sym (run-word (c * 8) x h) ∙ ap (run (bitOf (c * 8) x) 0) e) ∙ run-field (bitOf-bits (c * 8) x) 0 (j * 8) 8 r
+    ap (λ (y : ℕ). y / 2 ^ r % 256) (sym (run-word (c * 8) x h) ∙ ap (run (bitOf (c * 8) x) 0) e)
+    ∙ run-field (bitOf-bits (c * 8) x) 0 (j * 8) 8 r

@@ -3,7 +3,8 @@ use mathlib.Core.Path.{_≡_, refl, sym, ap, ap₂, _∙_, subst}
 use mathlib.Core.List.{List, [], _∷_, _++_, append-nil}
 use mathlib.Core.Logic.{⊎-elim}
 use Prim.Native.Nat.{ℕ, zero, suc, _+_, _-_, _*_, _/_, _%_, _^_, _≤_, _<_}
-use native.Mathlib.Nat.{not-suc-le-zero, zero-add, add-zero, add-assoc, mod-lt, div-add-mod', div-lt-iff-lt-mul, le-div-iff-mul-le, mul-zero, zero-div, zero-lt-suc, le-refl}
+use native.Mathlib.Nat.{not-suc-le-zero, zero-add, add-zero, add-assoc, mod-lt, div-add-mod', div-lt-iff-lt-mul}
+use native.Mathlib.Nat.{le-div-iff-mul-le, mul-zero, zero-div, zero-lt-suc, le-refl}
 use native.Mathlib.Omega.{arith}
 use lib.Arith.{lt-one}
 use lib.ListN.{length, getD, take, drop, take-append-drop, List·getD-append, List·getD-eq-default}
@@ -32,7 +33,8 @@ unfolding runs
 runs-ext f g a b n m h =
     tab-ext (λ k. run f (a + k * n) n) (λ k. run g (b + k * n) n) m
     (λ k l. run-ext f g (a + k * n) (b + k * n) n
-    (λ j i. ap f (add-assoc a (k * n) j) ∙ h (k * n + j) (omega (arith, next-le k m n l)) ∙ ap g (sym (add-assoc b (k * n) j))))
+    (λ j i. ap f (add-assoc a (k * n) j) ∙ h (k * n + j) (omega (arith, next-le k m n l))
+    ∙ ap g (sym (add-assoc b (k * n) j))))
 
 -- bit j of a run is bit j of what the run is of
 pub bit-run : {f : ℕ → ℕ} → Bits f → (a w j : ℕ) → j < w → bitOf w (run f a w) j ≡ f (a + j)
@@ -46,7 +48,8 @@ bit-run {f} b a w j h =
     one = zero-add (f (a + j + 0)) ∙ ap f (add-zero (a + j))
 
 -- the bits of runs are the bits that the runs are of
-pub bits-runs : {f : ℕ → ℕ} → Bits f → (at w m : ℕ) (rest : List ℕ) (i : ℕ) → i < m * w → bitsIn w (runs f at w m ++ rest) i ≡ f (at + i)
+pub bits-runs : {f : ℕ → ℕ} → Bits f → (at w m : ℕ) (rest : List ℕ) (i : ℕ) → i < m * w
+    → bitsIn w (runs f at w m ++ rest) i ≡ f (at + i)
 bits-runs b at zero m rest i h = absurd (not-suc-le-zero (subst (λ (x : ℕ). i < x) (mul-zero m) h))
 bits-runs {f} b at (suc v) m rest i h =
     let w = suc v in
@@ -65,7 +68,8 @@ bits-runs {f} b at (suc v) m rest i h =
 -- past the end there are zeros
 pub bits-past : (w : ℕ) (xs : List ℕ) (i : ℕ) → Wide w xs → length xs * w ≤ i → bitsIn w xs i ≡ 0
 unfolding bitsIn bitOf
-bits-past w xs i h l = ap (λ (x : ℕ). x / 2 ^ (w - 1 - i % w) % 2) (none w h l) ∙ ap (λ (x : ℕ). x % 2) (zero-div (2 ^ (w - 1 - i % w)))
+bits-past w xs i h l =
+    ap (λ (x : ℕ). x / 2 ^ (w - 1 - i % w) % 2) (none w h l) ∙ ap (λ (x : ℕ). x % 2) (zero-div (2 ^ (w - 1 - i % w)))
   where
     none : (w : ℕ) → Wide w xs → length xs * w ≤ i → getD xs (i / w) 0 ≡ 0
     none zero h l = lt-one (h (i / zero))
@@ -76,13 +80,16 @@ pub runs-own : (w : ℕ) (xs : List ℕ) (m : ℕ) → Wide w xs → m ≤ lengt
 unfolding runs tab
 runs-own w xs zero h l = refl
 runs-own w xs (suc m) h l =
-    ap₂ (λ (x : List ℕ) (y : ℕ). x ++ (y ∷ [])) (runs-own w xs m h (omega arith)) (ap (λ (a : ℕ). run (bitsIn w xs) a w) (zero-add (m * w)) ∙ run-unit w xs m (h m))
+    ap₂ (λ (x : List ℕ) (y : ℕ). x ++ (y ∷ [])) (runs-own w xs m h (omega arith))
+    (ap (λ (a : ℕ). run (bitsIn w xs) a w) (zero-add (m * w)) ∙ run-unit w xs m (h m))
     ∙ sym (take-suc xs m 0 l)
 
 pub wide-runs : {f : ℕ → ℕ} → Bits f → (at n m : ℕ) → Wide n (runs f at n m)
 wide-runs {f} b at n m k = ⊎-elim
     (λ l. subst (λ (x : ℕ). x < 2 ^ n) (sym (getD-runs f at n m k l)) (run-lt b (at + k * n) n))
-    (λ g. subst (λ (x : ℕ). x < 2 ^ n) (sym (List·getD-eq-default (runs f at n m) 0 (subst (λ (x : ℕ). x ≤ k) (sym (length-runs f at n m)) g))) (pow-pos n))
+    (λ g. subst (λ (x : ℕ). x < 2 ^ n)
+    (sym (List·getD-eq-default (runs f at n m) 0 (subst (λ (x : ℕ). x ≤ k) (sym (length-runs f at n m)) g)))
+    (pow-pos n))
     (lt-or-ge k m)
 
 -- the octets of t bits have room for them
@@ -95,7 +102,8 @@ unfolding packedInto
 read-back n vs s h =
     let e = octetsFor (length vs * n) in
     runs-ext (bitsIn 8 (packedInto n vs s)) (bitsIn n vs) 0 0 n (length vs)
-    (λ i l. ap (bitsIn 8 (packedInto n vs s)) (zero-add i) ∙ bits-runs (bitsIn-bits n vs) 0 8 e (drop e s) i (omega (arith, room (length vs * n))))
+    (λ i l. ap (bitsIn 8 (packedInto n vs s)) (zero-add i)
+    ∙ bits-runs (bitsIn-bits n vs) 0 8 e (drop e s) i (omega (arith, room (length vs * n))))
     ∙ runs-own n vs (length vs) h (le-refl (length vs)) ∙ take-length vs
 
 -- the bits from place a on to the end of the octet are zero
@@ -116,16 +124,19 @@ write-back n m s d h l z =
     (runs-ext (bitsIn n vs) (bitsIn 8 s) 0 0 8 e
     (λ i k. ap (bitsIn n vs) (zero-add i) ∙ ⊎-elim
     (λ lt. ap (λ (x : List ℕ). bitsIn n x i) (sym (append-nil vs)) ∙ bits-runs b 0 n m [] i lt)
-    (λ ge. bits-past n vs i (wide-runs b 0 n m) (subst (λ (x : ℕ). x * n ≤ i) (sym le) ge) ∙ sym (z i ge k) ∙ ap (bitsIn 8 s) (sym (zero-add i)))
+    (λ ge. bits-past n vs i (wide-runs b 0 n m) (subst (λ (x : ℕ). x * n ≤ i) (sym le) ge) ∙ sym (z i ge k)
+    ∙ ap (bitsIn 8 s) (sym (zero-add i)))
     (lt-or-ge i (m * n)))
     ∙ runs-own 8 s e h l)
 
 -- so packing what was unpacked over the same octets changes nothing
-pub same-octets : (n m : ℕ) (s : List ℕ) → Wide 8 s → octetsFor (m * n) ≤ length s → Padded s (m * n) → packedInto n (runs (bitsIn 8 s) 0 n m) s ≡ s
+pub same-octets : (n m : ℕ) (s : List ℕ) → Wide 8 s → octetsFor (m * n) ≤ length s → Padded s (m * n)
+    → packedInto n (runs (bitsIn 8 s) 0 n m) s ≡ s
 same-octets n m s h l z = write-back n m s s h l z ∙ take-append-drop (octetsFor (m * n)) s
 
 -- (b) at one number
-pub fetch-back : (n : ℕ) (vs s : List ℕ) (k : ℕ) → Wide n vs → k < length vs → run (bitsIn 8 (packedInto n vs s)) (k * n) n ≡ getD vs k 0
+pub fetch-back : (n : ℕ) (vs s : List ℕ) (k : ℕ) → Wide n vs → k < length vs
+    → run (bitsIn 8 (packedInto n vs s)) (k * n) n ≡ getD vs k 0
 fetch-back n vs s k h l =
     ap (λ (x : ℕ). run (bitsIn 8 (packedInto n vs s)) x n) (sym (zero-add (k * n)))
     ∙ sym (getD-runs (bitsIn 8 (packedInto n vs s)) 0 n (length vs) k l)

@@ -16,15 +16,18 @@ run-two s k w = sym
     (run-octet s k 0 (w (k + 0)) ∙ zero-add (getD s (k + 0) 0) ∙ ap (λ (x : ℕ). getD s x 0) (add-zero k)))
 
 pub run-four : (s : List ℕ) (k : ℕ) → Wide 8 s
-    → ((getD s k 0 * 256 + getD s (k + 1) 0) * 256 + getD s (k + 2) 0) * 256 + getD s (k + 3) 0 ≡ run (bitsIn 8 s) (k * 8) 32
+    → ((getD s k 0 * 256 + getD s (k + 1) 0) * 256 + getD s (k + 2) 0) * 256 + getD s (k + 3) 0
+    ≡ run (bitsIn 8 s) (k * 8) 32
 run-four s k w = sym
     (run-octet s k 3 (w (k + 3)) ∙ ap (λ (x : ℕ). x * 256 + getD s (k + 3) 0)
     (run-octet s k 2 (w (k + 2)) ∙ ap (λ (x : ℕ). x * 256 + getD s (k + 2) 0) (sym (run-two s k w))))
 
-pub run-eight : (s : List ℕ) (k : ℕ) → run (bitsIn 8 s) (k * 8) 32 * 4294967296 + run (bitsIn 8 s) ((k + 4) * 8) 32 ≡ run (bitsIn 8 s) (k * 8) 64
+pub run-eight : (s : List ℕ) (k : ℕ)
+    → run (bitsIn 8 s) (k * 8) 32 * 4294967296 + run (bitsIn 8 s) ((k + 4) * 8) 32 ≡ run (bitsIn 8 s) (k * 8) 64
 run-eight s k =
     let e : (k + 4) * 8 ≡ k * 8 + 32 = omega arith in
-    ap (λ (a : ℕ). run (bitsIn 8 s) (k * 8) 32 * 4294967296 + run (bitsIn 8 s) a 32) e ∙ sym (run-split (bitsIn 8 s) (k * 8) 32 32)
+    ap (λ (a : ℕ). run (bitsIn 8 s) (k * 8) 32 * 4294967296 + run (bitsIn 8 s) a 32) e
+    ∙ sym (run-split (bitsIn 8 s) (k * 8) 32 32)
 
 -- n bits, skip bits after the start of octet k, out of four octets
 pub run-inside : (s : List ℕ) (k skip n r : ℕ) → skip + n + r ≡ 32
@@ -38,7 +41,8 @@ at-8 s k i w =
     let e : (k + i) * 8 ≡ k * 8 + i * 8 = omega arith in
     sym (run-unit 8 s (k + i) (w (k + i))) ∙ ap (λ (a : ℕ). run (bitsIn 8 s) a 8) e
 
-pub at-16 : (s : List ℕ) (k i : ℕ) → Wide 8 s → getD s (k + i * 2) 0 * 256 + getD s (k + i * 2 + 1) 0 ≡ run (bitsIn 8 s) (k * 8 + i * 16) 16
+pub at-16 : (s : List ℕ) (k i : ℕ) → Wide 8 s
+    → getD s (k + i * 2) 0 * 256 + getD s (k + i * 2 + 1) 0 ≡ run (bitsIn 8 s) (k * 8 + i * 16) 16
 at-16 s k i w =
     let e : (k + i * 2) * 8 ≡ k * 8 + i * 16 = omega arith in
     run-two s (k + i * 2) w ∙ ap (λ (a : ℕ). run (bitsIn 8 s) a 16) e

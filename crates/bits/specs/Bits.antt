@@ -10,8 +10,9 @@ use Rattle.bits.specs.Tables.{tab}
 unfoldable pub bitOf : ℕ → ℕ → ℕ → ℕ
 bitOf w x j = x / 2 ^ (w - 1 - j) % 2
 
--- the bits of numbers of w bits each, w above 0, one number after another, and zeros after them; of octets w is 8. Numbers of no bits have none to follow one another: at width 0
--- every place reads the lowest bit of the first number, 0 where that is below 2^0 (law no-width)
+-- the bits of numbers of w bits each, w above 0, one number after another, and zeros after them; of octets w is 8.
+-- Numbers of no bits have none to follow one another: at width 0 every place reads the lowest bit of the first number,
+-- 0 where that is below 2^0 (law no-width)
 unfoldable pub bitsIn : ℕ → List ℕ → ℕ → ℕ
 bitsIn w xs i = bitOf w (getD xs (i / w) 0) (i % w)
 
@@ -41,7 +42,8 @@ join at f g i = cond (ltb i at) (f i) (g (i - at))
 unfoldable pub putAt : List ℕ → ℕ → ℕ → ℕ → List ℕ
 putAt s at n v = runs (join at (bitsIn 8 s) (bitsIn n (v ∷ []))) 0 8 (octetsFor (at + n)) ++ drop (octetsFor (at + n)) s
 
--- the octets s with the numbers vs of n bits each put one after another from the start, and zeros to the end of the octet
+-- the octets s with the numbers vs of n bits each put one after another from the start, and zeros to the end of the
+-- octet
 unfoldable pub packedInto : ℕ → List ℕ → List ℕ → List ℕ
 packedInto n vs s = runs (bitsIn n vs) 0 8 (octetsFor (length vs * n)) ++ drop (octetsFor (length vs * n)) s
 

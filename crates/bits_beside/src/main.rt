@@ -1,5 +1,5 @@
-// The functions of `runs` and `packs` beside a computation that takes one bit at a time, at every width from 0 to 24 and every bit
-// offset from 0 to 7. Each check answers how many things differ.
+// The functions of `runs` and `packs` beside a computation that takes one bit at a time, at every width from 0 to 24
+// and every bit offset from 0 to 7. Each check answers how many things differ.
 ghost use Prim.Native.Nat.{_+_, _*_, _<_, _≤_};
 ghost use lib.ListN.{length};
 
@@ -122,7 +122,8 @@ fn pack_part_differs(vs: &[u32], n: u8, room: usize, out: &mut [u8]) -> u32
     1
 }
 
-// One run put after the first bits of s, over its octets: the bits before it, the run, the padding and the octets after it.
+// One run put after the first bits of s, over its octets: the bits before it, the run, the padding and the octets after
+// it.
 fn put_differs(s: &[u8], n: u8, from: u32, v: u32, out: &mut [u8]) -> u32
     requires { ⌜ (n ≤ 24) × (from < 256) × (length (now out) < 1024) ⌝ }
     ensures { λ r. ⌜ r < 524288 ⌝ }
@@ -207,6 +208,7 @@ fn beside(n: u8, o: u8) -> u32
         + put_differs(&before, n, 16 + o as u32, v, &mut after)
 }
 
+// Every function of bits beside its bit-by-bit reading, at each width and offset.
 fn main() {
     let mut agree: u64 = 0;
     let mut n: u8 = 0;

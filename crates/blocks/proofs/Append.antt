@@ -28,10 +28,13 @@ pack-append n xs ys d k w u e =
     runs-ext (bitsIn n xs) (bitsIn n (xs ++ ys)) 0 0 8 k (λ i h. sym (bits-left n xs ys (0 + i) (omega (arith, e)))) in
     let right : runs (bitsIn n ys) 0 8 m ≡ runs (bitsIn n (xs ++ ys)) (0 + k * 8) 8 m =
     runs-ext (bitsIn n ys) (bitsIn n (xs ++ ys)) 0 (0 + k * 8) 8 m
-    (λ i h. ap (bitsIn n ys) (zero-add i) ∙ sym (bits-right n xs ys i w u) ∙ ap (bitsIn n (xs ++ ys)) (omega (arith, e))) in
+    (λ i h. ap (bitsIn n ys) (zero-add i) ∙ sym (bits-right n xs ys i w u)
+    ∙ ap (bitsIn n (xs ++ ys)) (omega (arith, e))) in
     ap₂ (λ (a b : List ℕ). a ++ (runs (bitsIn n ys) 0 8 m ++ drop m b)) T D
     ∙ ap₂ (λ (a b : List ℕ). a ++ (b ++ drop m (drop k d))) left right
-    ∙ ap (λ (z : List ℕ). runs (bitsIn n (xs ++ ys)) 0 8 k ++ (runs (bitsIn n (xs ++ ys)) (0 + k * 8) 8 m ++ z)) (drop-drop m k d)
-    ∙ sym (append-assoc (runs (bitsIn n (xs ++ ys)) 0 8 k) (runs (bitsIn n (xs ++ ys)) (0 + k * 8) 8 m) (drop (k + m) d))
+    ∙ ap (λ (z : List ℕ). runs (bitsIn n (xs ++ ys)) 0 8 k ++ (runs (bitsIn n (xs ++ ys)) (0 + k * 8) 8 m ++ z))
+    (drop-drop m k d)
+    ∙ sym (append-assoc (runs (bitsIn n (xs ++ ys)) 0 8 k) (runs (bitsIn n (xs ++ ys)) (0 + k * 8) 8 m)
+    (drop (k + m) d))
     ∙ ap (λ (z : List ℕ). z ++ drop (k + m) d) (sym (runs-split (bitsIn n (xs ++ ys)) 0 8 k m))
     ∙ ap (λ (z : ℕ). runs (bitsIn n (xs ++ ys)) 0 8 z ++ drop z d) (sym o)

@@ -62,9 +62,12 @@ module _ (m marked at room : ℕ) (p : Progress) (octets : ℕ) where
     pub marks-there : at ≤ marked
     marks-there = leb-true at marked (and-right listed (leb at marked) h)
 
-    pub block-judged : leb (p .place) octets && (leb m (512 - p .held) && leb m (marked - at)) ≡ blockFits m marked at room p octets
+    pub block-judged : leb (p .place) octets && (leb m (512 - p .held) && leb m (marked - at))
+        ≡ blockFits m marked at room p octets
     unfolding blockFits
-    block-judged = ap₂ (λ (x y : Bool). x && (leb (p .place) octets && y)) (sym held-there) (fits-after m (512 - p .held) at marked marks-there)
+    block-judged =
+        ap₂ (λ (x y : Bool). x && (leb (p .place) octets && y)) (sym held-there)
+        (fits-after m (512 - p .held) at marked marks-there)
 
   pub block-refused : listed && leb at marked ≡ false → false ≡ blockFits m marked at room p octets
   unfolding blockFits
@@ -73,7 +76,8 @@ module _ (m marked at room : ℕ) (p : Progress) (octets : ℕ) where
       by : (b : Bool) → listed ≡ b → false ≡ listed && (leb (p .place) octets && gatherFits m (512 - p .held) at marked)
       by true e =
           let k : leb at marked ≡ false = ap (λ (x : Bool). x && leb at marked) (sym e) ∙ h in
-          sym (and-none listed _ (and-none (leb (p .place) octets) _ (sym (fits-none m (512 - p .held) at marked (leb-false at marked k)))))
+          sym (and-none listed _
+          (and-none (leb (p .place) octets) _ (sym (fits-none m (512 - p .held) at marked (leb-false at marked k)))))
       by false e = ap (λ (x : Bool). x && (leb (p .place) octets && gatherFits m (512 - p .held) at marked)) (sym e)
 
   -- what is known where it fits
@@ -98,24 +102,37 @@ module _ (m marked at room : ℕ) (p : Progress) (octets : ℕ) where
     pub fits-gather : gatherFits m (512 - p .held) at marked ≡ true
     fits-gather = and-right (leb (p .place) octets) _ places
 
-  pub block-fits : room ≡ 512 → p .held + m ≤ 512 → p .place ≤ octets → at + m ≤ marked → blockFits m marked at room p octets ≡ true
+  pub block-fits : room ≡ 512 → p .held + m ≤ 512 → p .place ≤ octets → at + m ≤ marked
+      → blockFits m marked at room p octets ≡ true
   unfolding blockFits
   block-fits e h k g =
-      rw (eq-eqb room 512 e, le-leb (p .held) 512 (omega arith), le-leb (p .place) octets k, fits-so m (512 - p .held) at marked (omega arith) g) refl
+      rw (
+        eq-eqb room 512 e,
+        le-leb (p .held) 512 (omega arith),
+        le-leb (p .place) octets k,
+        fits-so m (512 - p .held)
+            at marked (omega arith) g,
+      ) refl
 
 module _ (room : ℕ) (p : Progress) (octets : ℕ) where
   pub last-known : leb (p .held) room && leb (p .place) octets ≡ true → (p .held ≤ room) × (p .place ≤ octets)
-  last-known h =
-      (leb-true (p .held) room (and-left (leb (p .held) room) (leb (p .place) octets) h), leb-true (p .place) octets (and-right (leb (p .held) room) (leb (p .place) octets) h))
+  last-known h = (
+    leb-true (p .held) room (and-left (leb (p .held) room) (leb (p .place) octets) h),
+    leb-true (p .place) octets
+        (and-right (leb (p .held) room) (leb (p .place) octets) h),
+  )
 
   pub last-fits : p .held ≤ room → p .place ≤ octets → lastFits room p octets ≡ true
   unfolding lastFits
   last-fits h k = ap₂ (λ (x y : Bool). x && y) (le-leb (p .held) room h) (le-leb (p .place) octets k)
 
-  pub last-so : leb (p .held) room && leb (p .place) octets ≡ true → (r t : Bool) (x y z : List ℕ) → r ≡ t → x ≡ y → (r ≡ lastFits room p octets && t) × (x ≡ cond (lastFits room p octets) y z)
+  pub last-so : leb (p .held) room && leb (p .place) octets ≡ true → (r t : Bool) (x y z : List ℕ) → r ≡ t → x ≡ y
+      → (r ≡ lastFits room p octets && t) × (x ≡ cond (lastFits room p octets) y z)
   unfolding lastFits
-  last-so h r t x y z e k = (e ∙ ap (λ (s : Bool). s && t) (sym h), where-so (leb (p .held) room && leb (p .place) octets) x y z h k)
+  last-so h r t x y z e k =
+      (e ∙ ap (λ (s : Bool). s && t) (sym h), where-so (leb (p .held) room && leb (p .place) octets) x y z h k)
 
-  pub last-not : leb (p .held) room && leb (p .place) octets ≡ false → (t : Bool) (y z : List ℕ) → (false ≡ lastFits room p octets && t) × (z ≡ cond (lastFits room p octets) y z)
+  pub last-not : leb (p .held) room && leb (p .place) octets ≡ false → (t : Bool) (y z : List ℕ)
+      → (false ≡ lastFits room p octets && t) × (z ≡ cond (lastFits room p octets) y z)
   unfolding lastFits
   last-not h t y z = (ap (λ (s : Bool). s && t) (sym h), where-not (leb (p .held) room && leb (p .place) octets) y z h)

@@ -7,7 +7,8 @@ use borrow.Author.Tests.{le-leb, lt-leb}
 use lib.ListN.{length, take}
 use Rattle.packs.specs.Pack.{packFits}
 use Rattle.blocks.specs.declared.{Progress.Progress}
-use Rattle.blocks.specs.Block.{blockFits, heldWith, countWith, movedUp, packedFrom, full, settledAt, settledHeld, settledOut}
+use Rattle.blocks.specs.Block.{blockFits, heldWith, countWith, movedUp, packedFrom, full, settledAt, settledHeld}
+use Rattle.blocks.specs.Block.{settledOut}
 use Rattle.blocks.proofs.Parts.{none-packed}
 use Rattle.blocks.proofs.Fitting.{where-so}
 
@@ -31,7 +32,8 @@ module _ (n c : ℕ) (held : List ℕ) (place : ℕ) (out : List ℕ) where
   settled-not h = (rw h, (rw h, rw h))
 
   -- as the code comes to its three ends
-  pub settle-few : c < 256 → (record { place = place; held = c } ≡ settledAt n c held place out) × ((held ≡ settledHeld n c held place out) × (out ≡ settledOut n c held place out))
+  pub settle-few : c < 256
+      → (record { place = place; held = c } ≡ settledAt n c held place out) × ((held ≡ settledHeld n c held place out) × (out ≡ settledOut n c held place out))
   settle-few h = settled-not (full-few h)
 
   module _ (h : 256 ≤ c) (r : Bool) (e : r ≡ packFits n (take 256 held) (length out - place)) where
@@ -59,9 +61,11 @@ module _ (values marks : List ℕ) (at n : ℕ) (held : List ℕ) (p : Progress)
   with = heldWith values marks at (p .held) held
 
   pub block-done : fitting ≡ true → (c : ℕ) → c ≡ more → (h : List ℕ) → h ≡ with
-      → (r : Progress) → r ≡ settledAt n c h (p .place) out → (held' : List ℕ) → held' ≡ settledHeld n c h (p .place) out → (out' : List ℕ) → out' ≡ settledOut n c h (p .place) out
+      → (r : Progress) → r ≡ settledAt n c h (p .place) out → (held' : List ℕ)
+      → held' ≡ settledHeld n c h (p .place) out → (out' : List ℕ) → out' ≡ settledOut n c h (p .place) out
       → (r ≡ cond fitting (settledAt n more with (p .place) out) p)
-      × ((held' ≡ cond fitting (settledHeld n more with (p .place) out) held) × (out' ≡ cond fitting (settledOut n more with (p .place) out) out))
+      × ((held' ≡ cond fitting (settledHeld n more with (p .place) out) held)
+      × (out' ≡ cond fitting (settledOut n more with (p .place) out) out))
   block-done f c e h g r a held' b out' d = (
     where-so fitting r _ p f (a ∙ ap₂ (λ (x : ℕ) (y : List ℕ). settledAt n x y (p .place) out) e g),
     (

@@ -1,4 +1,5 @@
--- What a block of points leaves of the values held, and of the octets that they are put into. A block is 256 values: whole octets, whatever their width.
+-- What a block of points leaves of the values held, and of the octets that they are put into. A block is 256 values:
+-- whole octets, whatever their width.
 use Prim.Native.Nat.{ℕ, _+_, _-_, _*_}
 use mathlib.Core.Bool.{Bool, cond, _&&_}
 use mathlib.Core.List.{List, _++_}
@@ -23,7 +24,8 @@ blockOf left = cond (ltb left blockLength) left blockLength
 
 -- the values of a block's present points stored after the first c held, and how many are held then
 unfoldable pub heldWith : List ℕ → List ℕ → ℕ → ℕ → List ℕ → List ℕ
-heldWith values marks at c held = take c held ++ gatherInto (hereFrom marks at) (valueOf values) (length values) (drop c held)
+heldWith values marks at c held =
+    take c held ++ gatherInto (hereFrom marks at) (valueOf values) (length values) (drop c held)
 
 unfoldable pub countWith : List ℕ → List ℕ → ℕ → ℕ → ℕ
 countWith values marks at c = c + count (hereFrom marks at) 0 (length values)
@@ -54,7 +56,8 @@ settledOut n c held place out = cond (full n c held place out) (packedFrom n blo
 -- whether a block of m points has room after c values held, marks from point `at` on, and a place among the octets
 unfoldable pub blockFits : ℕ → ℕ → ℕ → ℕ → Progress → ℕ → Bool
 blockFits m marked at room p octets =
-    eqb room heldRoom && leb (p .held) heldRoom && (leb (p .place) octets && gatherFits m (heldRoom - p .held) at marked)
+    eqb room heldRoom && leb (p .held) heldRoom
+    && (leb (p .place) octets && gatherFits m (heldRoom - p .held) at marked)
 
 -- whether the values held are in their list, and have a place
 unfoldable pub lastFits : ℕ → Progress → ℕ → Bool

@@ -1,5 +1,6 @@
-// Values of present points on their way into octets. They are gathered into a short list, and each 256 of them are packed: these are whole
-// octets, whatever their width, so that a block starts where the one before it ends. What does not fit changes nothing.
+// Values of present points on their way into octets. They are gathered into a short list, and each 256 of them are
+// packed: these are whole octets, whatever their width, so that a block starts where the one before it ends. What does
+// not fit changes nothing.
 ghost use mathlib.Core.Path.{_≡_};
 ghost use mathlib.Core.Bool.{_&&_};
 ghost use Prim.Native.Nat.{_-_, _≤_};
@@ -79,6 +80,7 @@ fn settle(held: &mut [u32], c: usize, bits: u8, place: usize, out: &mut [u8]) ->
     }
 }
 
+// Whether a block of m points has room after the values held, marks from point `at` on, and a place among the octets.
 fn fits(m: usize, marked: usize, at: usize, room: usize, progress: Progress, octets: usize) -> bool
     ensures { λ r. ⌜ r ≡ blockFits m marked at room progress octets ⌝ }
 {
@@ -89,8 +91,8 @@ fn fits(m: usize, marked: usize, at: usize, room: usize, progress: Progress, oct
     false
 }
 
-// The values of a block of points, whose marks start at point `at`: those at present points are held after those that are, and the first 256
-// packed once there are so many.
+// The values of a block of points, whose marks start at point `at`: those at present points are held after those that
+// are, and the first 256 packed once there are so many.
 pub fn put_block(
     values: &[u32],
     marks: &[u8],

@@ -24,13 +24,16 @@ numbersOf e =
     record { number = e .number; ni = g .ni; nj = g .nj; la1 = a .la1 .value; lo1 = a .lo1 .value; la2 = a .la2 .value; lo2 = a .lo2 .value; di = a .di; dj = a .dj; scan = g .scan }
 
 -- The rows from i on are the row at i and those after it.
-from-suc : (ns : List Numbers) (i : ℕ) (d : Numbers) → i < length ns → drop i (map standsFor ns) ≡ standsFor (getD ns i d) ∷ drop (suc i) (map standsFor ns)
+from-suc : (ns : List Numbers) (i : ℕ) (d : Numbers) → i < length ns
+    → drop i (map standsFor ns) ≡ standsFor (getD ns i d) ∷ drop (suc i) (map standsFor ns)
 from-suc [] i d h = absurd (not-suc-le-zero h)
 from-suc (n ∷ ns) zero d h = refl
 from-suc (n ∷ ns) (suc i) d h = from-suc ns i d (omega arith)
 
-pub from : (ns : List Numbers) (i : ℕ) (d : Numbers) → i < length ns → drop i (map standsFor ns) ≡ standsFor (getD ns i d) ∷ drop (i + 1) (map standsFor ns)
-from ns i d h = from-suc ns i d h ∙ ap (λ (k : ℕ). standsFor (getD ns i d) ∷ drop k (map standsFor ns)) (sym (add-one i))
+pub from : (ns : List Numbers) (i : ℕ) (d : Numbers) → i < length ns
+    → drop i (map standsFor ns) ≡ standsFor (getD ns i d) ∷ drop (i + 1) (map standsFor ns)
+from ns i d h =
+    from-suc ns i d h ∙ ap (λ (k : ℕ). standsFor (getD ns i d) ∷ drop k (map standsFor ns)) (sym (add-one i))
 
 -- The first row is the answer, or the rows after it decide.
 module _ (es rest : List Entry) (e : Entry) (n : ℕ) (at : es ≡ e ∷ rest) where

@@ -1,5 +1,5 @@
-// The catalogue: "Without a GDS, PDS octet 7 picks from this catalogue; resolution flags are 128, our own setting". A constant table of
-// the grids' numbers, searched by grid number. Total: a number that it does not have has no grid.
+// The catalogue: "Without a GDS, PDS octet 7 picks from this catalogue; resolution flags are 128, our own setting". A
+// constant table of the grids' numbers, searched by grid number. Total: a number that it does not have has no grid.
 ghost use mathlib.Core.Path.{_≡_};
 ghost use mathlib.Core.List.{_∷_};
 ghost use Prim.Native.Nat.{_+_, _<_};
@@ -118,7 +118,8 @@ const FLAGS: u8 = 128;
 
 // What a row's numbers stand for.
 fn entry(n: Numbers) -> Entry
-    ensures { λ r. ⌜ r ≡ theEntry (n .number) (n .ni) (n .nj) (n .la1) (n .lo1) (n .la2) (n .lo2) (n .di) (n .dj) (n .scan) ⌝ }
+    ensures { λ r. ⌜ r ≡
+        theEntry (n .number) (n .ni) (n .nj) (n .la1) (n .lo1) (n .la2) (n .lo2) (n .di) (n .dj) (n .scan) ⌝ }
 {
     Entry {
         number: n.number,
@@ -141,7 +142,8 @@ fn entry(n: Numbers) -> Entry
     }
 }
 
-// The row of the catalogue at i, by itself: in the loop below the whole table would be walked at every step of the proof.
+// The row of the catalogue at i, by itself: in the loop below the whole table would be walked at every step of the
+// proof.
 fn row(i: usize) -> Entry
     requires { ⌜ i < length catalogue ⌝ }
     ensures { λ r. ⌜ drop i catalogue ≡ r ∷ drop (i + 1) catalogue ⌝ }

@@ -1,8 +1,9 @@
-// The chart: the row and column of a grid point and back, and how many points and rows there are, over the shape of a grid alone. All total;
-// a number that is no grid point's and a place outside the chart have a case of their own.
+// The chart: the row and column of a grid point and back, and how many points and rows there are, over the shape of a
+// grid alone. All total; a number that is no grid point's and a place outside the chart have a case of their own.
 ghost use mathlib.Core.Path.{_≡_};
 ghost use Prim.Native.Nat.{_<_};
-ghost use Rattle.rules.specs.Chart.{turned as theTurned, spotOf, pointOf, pointsOn, rowsOn, rowLong, columnsOn, charted, pointed};
+ghost use Rattle.rules.specs.Chart.{turned as theTurned, spotOf, pointOf, pointsOn, rowsOn, rowLong, columnsOn};
+ghost use Rattle.rules.specs.Chart.{charted, pointed};
 use choices::less;
 use choices::pick;
 use rules::Charted;
@@ -18,7 +19,8 @@ fn turned(turn: bool, n: u32, i: u32) -> u32
     pick(turn, less(less(n, 1), i), i)
 }
 
-// "Scanning bit 1 set: columns run west. Bit 2 set: rows run north. Bit 3 set: points of one column are consecutive, else of one row".
+// "Scanning bit 1 set: columns run west. Bit 2 set: rows run north. Bit 3 set: points of one column are consecutive,
+// else of one row".
 fn spot(ni: u32, nj: u32, scan: u8, k: u32) -> Spot
     requires { ⌜ 0 < ni ⌝ }
     requires { ⌜ 0 < nj ⌝ }

@@ -11,7 +11,8 @@ use Rattle.bits.specs.Bits.{bitsIn}
 use Rattle.bits.specs.Tables.{anyBelow}
 use Rattle.bits.proofs.Below.{any-ext}
 use Rattle.bitmap.proofs.Laws.{bit-part}
-use Rattle.rules.specs.declared.{Part.Part, Bitmap.Bitmap, Bitmap.the-variants.Without, Bitmap.the-variants.Carried, Bitmap.the-variants.Stored}
+use Rattle.rules.specs.declared.{Part.Part, Bitmap.Bitmap, Bitmap.the-variants.Without, Bitmap.the-variants.Carried}
+use Rattle.rules.specs.declared.{Bitmap.the-variants.Stored}
 use Rattle.rules.specs.Bounds.{bmsHead}
 use Rattle.rules.specs.Bitmap.{markOf, presentBy, bitmapOctets, inForce}
 use Rattle.marks.specs.Marks.{allPresent, marksDiffer}
@@ -21,7 +22,9 @@ twice true = refl
 twice false = refl
 
 turned : (x y : ℕ) → eqb x y ≡ eqb y x
-turned x y = elim (ℕ-discrete x y) [ yes e ↦ eq-eqb x y e ∙ sym (eq-eqb y x (sym e)) | no e ↦ ne-eqb x y e ∙ sym (ne-eqb y x (λ q. e (sym q))) ]
+turned x y =
+    elim (ℕ-discrete x y)
+    [ yes e ↦ eq-eqb x y e ∙ sym (eq-eqb y x (sym e)) | no e ↦ ne-eqb x y e ∙ sym (ne-eqb y x (λ q. e (sym q))) ]
 
 module _ (s store : List ℕ) (bms : Part) (marks : List ℕ) (n : ℕ) (b : Bitmap) where
   abbrev differ : Bitmap → Bool
@@ -33,8 +36,13 @@ module _ (s store : List ℕ) (bms : Part) (marks : List ℕ) (n : ℕ) (b : Bit
 
   pub carried : b ≡ Carried → (r : Bool) → r ≡ marksDiffer s (bms .start + bmsHead) marks n → r ≡ differ b
   unfolding presentBy bitmapOctets inForce marksDiffer
-  carried h r e = rw h (e ∙ any-ext _ _ n (λ i k. ap (λ (x : ℕ). not (eqb x (markOf marks i))) (bit-part s (bms .start + bmsHead) n i k ∙ ap (bitsIn 8 _) (zero-add i))))
+  carried h r e =
+      rw h (e ∙ any-ext _ _ n
+      (λ i k. ap (λ (x : ℕ). not (eqb x (markOf marks i)))
+      (bit-part s (bms .start + bmsHead) n i k ∙ ap (bitsIn 8 _) (zero-add i))))
 
   pub stored : (number : ℕ) → b ≡ Stored number → (r : Bool) → r ≡ marksDiffer store 0 marks n → r ≡ differ b
   unfolding presentBy bitmapOctets inForce marksDiffer
-  stored number h r e = rw h (e ∙ any-ext _ _ n (λ i k. ap (λ (x : ℕ). not (eqb x (markOf marks i))) (bit-part store 0 n i k ∙ ap (bitsIn 8 _) (zero-add i))))
+  stored number h r e =
+      rw h (e ∙ any-ext _ _ n
+      (λ i k. ap (λ (x : ℕ). not (eqb x (markOf marks i))) (bit-part store 0 n i k ∙ ap (bitsIn 8 _) (zero-add i))))

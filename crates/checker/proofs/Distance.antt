@@ -1,5 +1,5 @@
--- Refusal 17 in unsigned numbers: V, R and what the message says, lifted by one number, are as far apart as before; and a distance is over a
--- bound where one of two sums is below the other.
+-- Refusal 17 in unsigned numbers: V, R and what the message says, lifted by one number, are as far apart as before; and
+-- a distance is over a bound where one of two sums is below the other.
 use mathlib.Core.Path.{_≡_, refl, sym, ap, ap₂, _∙_}
 use mathlib.Core.Bool.{_||_}
 use mathlib.Core.Logic.{⊎-elim}
@@ -47,10 +47,12 @@ module _ (v : ℤ) (f : SFits w32 v) where
   word-is : toZ w64 (ofZ w64 (wide +ℤ pos 2147483648)) ≡ pos (up v)
   word-is = toZ-ofZ lift-fits ∙ lift-is
 
-  pub word-fits : T (nonNeg (toZ w64 (ofZ w64 (wide +ℤ pos 2147483648)))) × Fits w64 (natAbs (toZ w64 (ofZ w64 (wide +ℤ pos 2147483648))))
+  pub word-fits : T (nonNeg (toZ w64 (ofZ w64 (wide +ℤ pos 2147483648))))
+      × Fits w64 (natAbs (toZ w64 (ofZ w64 (wide +ℤ pos 2147483648))))
   word-fits = rw word-is (tt, record { fits = omega (arith, up-lt v (f .sfits)) })
 
-  pub lifts : (pos (natAbs (toZ w64 (ofZ w64 (wide +ℤ pos 2147483648)))) ≡ v +ℤ pos 2147483648) × (natAbs (toZ w64 (ofZ w64 (wide +ℤ pos 2147483648))) < 4294967296)
+  pub lifts : (pos (natAbs (toZ w64 (ofZ w64 (wide +ℤ pos 2147483648)))) ≡ v +ℤ pos 2147483648)
+      × (natAbs (toZ w64 (ofZ w64 (wide +ℤ pos 2147483648))) < 4294967296)
   lifts = rw word-is (sym (up-is v (f .sfits)), up-lt v (f .sfits))
 
   pub back : toZ w32 (ofZ w32 v) +ℤ pos 2147483648 ≡ v +ℤ pos 2147483648
@@ -84,15 +86,20 @@ over a c s = ⊎-elim
 -- both lifted by k
 shifted : (v r y k : ℤ) → v +ℤ k -ℤ (r +ℤ k +ℤ y) ≡ v -ℤ r -ℤ y
 shifted v r y k =
-    ap (λ (x : ℤ). v +ℤ k +ℤ x) (negℤ-+ℤ (r +ℤ k) y ∙ ap (λ (x : ℤ). x +ℤ negℤ y) (negℤ-+ℤ r k ∙ +ℤ-comm (negℤ r) (negℤ k)))
+    ap (λ (x : ℤ). v +ℤ k +ℤ x)
+    (negℤ-+ℤ (r +ℤ k) y ∙ ap (λ (x : ℤ). x +ℤ negℤ y) (negℤ-+ℤ r k ∙ +ℤ-comm (negℤ r) (negℤ k)))
     ∙ sym (+ℤ-assoc (v +ℤ k) (negℤ k +ℤ negℤ r) (negℤ y))
-    ∙ ap (λ (x : ℤ). x +ℤ negℤ y) (sym (+ℤ-assoc (v +ℤ k) (negℤ k) (negℤ r)) ∙ ap (λ (x : ℤ). x +ℤ negℤ r) (+ℤ-negℤ-cancel v k))
+    ∙ ap (λ (x : ℤ). x +ℤ negℤ y)
+    (sym (+ℤ-assoc (v +ℤ k) (negℤ k) (negℤ r)) ∙ ap (λ (x : ℤ). x +ℤ negℤ r) (+ℤ-negℤ-cancel v k))
 
-pub out-by : (v r : ℤ) (x e a b p g s : ℕ) → pos a ≡ v +ℤ pos 2147483648 → pos b ≡ r +ℤ pos 2147483648 → p ≡ 2 ^ e → g ≡ a * 2 → s ≡ (b + x * p) * 2
+pub out-by : (v r : ℤ) (x e a b p g s : ℕ) → pos a ≡ v +ℤ pos 2147483648 → pos b ≡ r +ℤ pos 2147483648 → p ≡ 2 ^ e
+    → g ≡ a * 2 → s ≡ (b + x * p) * 2
     → ltb (g + p) s || ltb (s + p) g ≡ farFrom v r x e
 unfolding farFrom
 out-by v r x e a b p g s ea eb ep eg es =
     ap₂ (λ (m n : ℕ). ltb (m + p) n || ltb (n + p) m) eg es
     ∙ over a (b + x * p) p
-    ∙ ap (λ (n : ℕ). ltb p (2 * n)) (sym (apart a (b + x * p)) ∙ ap natAbs (ap₂ (λ (m n : ℤ). m -ℤ (n +ℤ pos (x * p))) ea eb ∙ shifted v r (pos (x * p)) (pos 2147483648)))
+    ∙ ap (λ (n : ℕ). ltb p (2 * n))
+    (sym (apart a (b + x * p))
+    ∙ ap natAbs (ap₂ (λ (m n : ℤ). m -ℤ (n +ℤ pos (x * p))) ea eb ∙ shifted v r (pos (x * p)) (pos 2147483648)))
     ∙ ap (λ (q : ℕ). ltb q (2 * natAbs (v -ℤ r -ℤ pos (x * q)))) ep

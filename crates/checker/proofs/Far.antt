@@ -1,4 +1,5 @@
--- The points out: a turn of the loop over numbers and X, the X as bits of the message, a block of points, and a turn of the loop over blocks.
+-- The points out: a turn of the loop over numbers and X, the X as bits of the message, a block of points, and a turn of
+-- the loop over blocks.
 use mathlib.Core.Path.{_≡_, refl, sym, ap, ap₂, _∙_, subst}
 use mathlib.Core.Bool.{Bool, _||_, _&&_, cond}
 use mathlib.Core.List.{List, _++_}
@@ -27,52 +28,68 @@ use Rattle.laws.specs.Marks.{here}
 use Rattle.gathering.specs.Gather.{hereFrom}
 use Rattle.gathering.proofs.Here.{here-bits, here-from-bits, here-is}
 use Rattle.source.proofs.Blocks.{Gathered, any-block, part, part-long, any-part, any-more, count-from}
-use Rattle.checker.specs.Points.{out, blockOut}
+use Rattle.checker.specs.Points.{out, blockFar}
 
-pub few-next : (numbers : List ℤ) (held : List ℕ) (r : ℤ) (e j : ℕ) → mag (getD numbers j (pos 0)) < 2 ^ 31 → (x z : Bool)
-    → x ≡ anyBelow (λ k. farFrom (getD numbers k (pos 0)) r (getD held k 0) e) j → z ≡ farFrom (toZ w32 (ofZ w32 (getD numbers j (pos 0)))) r (getD held j 0) e
+pub few-next : (numbers : List ℤ) (held : List ℕ) (r : ℤ) (e j : ℕ) → mag (getD numbers j (pos 0)) < 2 ^ 31
+    → (x z : Bool)
+    → x ≡ anyBelow (λ k. farFrom (getD numbers k (pos 0)) r (getD held k 0) e) j
+    → z ≡ farFrom (toZ w32 (ofZ w32 (getD numbers j (pos 0)))) r (getD held j 0) e
     → x || z ≡ anyBelow (λ k. farFrom (getD numbers k (pos 0)) r (getD held k 0) e) (j + 1)
 few-next numbers held r e j f x z h q =
     any-next _ j x z h (q ∙ ap (λ (v : ℤ). farFrom v r (getD held j 0) e) (toZ-ofZ {w = w32} {z = getD numbers j (pos 0)} (record { sfits = f })))
 
 -- the X held are those of the data
-held-is : (s held d : List ℕ) (at n c : ℕ) → n ≤ bitsMost → c ≤ length d → held ≡ unpacked s at n c d → (j : ℕ) → j < c → getD held j 0 ≡ run (bitsIn 8 s) (at + j * n) n
+held-is : (s held d : List ℕ) (at n c : ℕ) → n ≤ bitsMost → c ≤ length d → held ≡ unpacked s at n c d → (j : ℕ) → j < c
+    → getD held j 0 ≡ run (bitsIn 8 s) (at + j * n) n
 unfolding unpacked unpackFits
 held-is s held d at n c l h e j k =
     let R = runs (bitsIn 8 s) at n c in
     let z : held ≡ R ++ drop c d = e ∙ ap₂ (λ (a b : Bool). cond (a && b) (R ++ drop c d) d) (le-leb n bitsMost l) (le-leb c (length d) h) in
     ap (λ (x : List ℕ). getD x j 0) z
-    ∙ List·getD-append R (drop c d) 0 j (subst (λ (x : ℕ). j < x) (sym (length-runs (bitsIn 8 s) at n c)) k) ∙ getD-runs (bitsIn 8 s) at n c j k
+    ∙ List·getD-append R (drop c d) 0 j (subst (λ (x : ℕ). j < x) (sym (length-runs (bitsIn 8 s) at n c)) k)
+    ∙ getD-runs (bitsIn 8 s) at n c j k
 
-pub far-held : (s : List ℕ) (numbers : List ℤ) (held d : List ℕ) (at n c : ℕ) (r rv : ℤ) (e : ℕ) → rv ≡ r → n ≤ bitsMost → c ≤ length d → held ≡ unpacked s at n c d
+pub far-held : (s : List ℕ) (numbers : List ℤ) (held d : List ℕ) (at n c : ℕ) (r rv : ℤ) (e : ℕ) → rv ≡ r → n ≤ bitsMost
+    → c ≤ length d → held ≡ unpacked s at n c d
     → (q : Bool) → q ≡ anyBelow (λ j. farFrom (getD numbers j (pos 0)) rv (getD held j 0) e) c
     → q ≡ anyBelow (λ j. farFrom (getD numbers j (pos 0)) r (run (bitsIn 8 s) (at + j * n) n) e) c
 far-held s numbers held d at n c r rv e er l h u q p =
-    p ∙ any-ext _ _ c (λ j k. ap₂ (λ (v : ℤ) (x : ℕ). farFrom (getD numbers j (pos 0)) v x e) er (held-is s held d at n c l h u j k))
+    p
+    ∙ any-ext _ _ c
+    (λ j k. ap₂ (λ (v : ℤ) (x : ℕ). farFrom (getD numbers j (pos 0)) v x e) er (held-is s held d at n c l h u j k))
 
 -- a block of points, each of them present
-pub count-all : (marks : List ℕ) (i c : ℕ) → ((j : ℕ) → j < c → markOf marks (i + j) ≡ 1) → c ≡ count (hereFrom marks i) 0 c
+pub count-all : (marks : List ℕ) (i c : ℕ) → ((j : ℕ) → j < c → markOf marks (i + j) ≡ 1)
+    → c ≡ count (hereFrom marks i) 0 c
 unfolding count
 count-all marks i zero h = refl
 count-all marks i (suc c) h =
     let one : hereFrom marks i c ≡ 1 = sym (here-is marks (i + c) 1 (sym (ap (λ (t : Bool). cond t 1 0) (eq-eqb _ _ (h c (omega arith)))))) in
-    sym (ap (count (hereFrom marks i) 0) (sym (add-one c)) ∙ count-one (hereFrom marks i) c one ∙ ap (λ (x : ℕ). x + 1) (sym (count-all marks i c (λ j l. h j (omega arith)))) ∙ add-one c)
+    sym (ap (count (hereFrom marks i) 0) (sym (add-one c)) ∙ count-one (hereFrom marks i) c one
+    ∙ ap (λ (x : ℕ). x + 1) (sym (count-all marks i c (λ j l. h j (omega arith)))) ∙ add-one c)
 
 -- the points of a block that are out, where each is present, and where some are
 module _ (s : List ℕ) (numbers : List ℤ) (marks : List ℕ) (i at n : ℕ) (r rv : ℤ) (er : rv ≡ r) (e : ℕ) where
   abbrev outs : Bool
-  outs = anyBelow (blockOut s numbers marks i at n r e) (length numbers)
+  outs = anyBelow (blockFar s numbers marks i at n r e) (length numbers)
 
   pub all-out : ((j : ℕ) → j < length numbers → markOf marks (i + j) ≡ 1)
-      → (q : Bool) → q ≡ anyBelow (λ j. farFrom (getD numbers j (pos 0)) rv (run (bitsIn 8 s) (at + j * n) n) e) (length numbers) → q ≡ outs
-  unfolding blockOut
+      → (q : Bool)
+      → q ≡ anyBelow (λ j. farFrom (getD numbers j (pos 0)) rv (run (bitsIn 8 s) (at + j * n) n) e) (length numbers)
+      → q ≡ outs
+  unfolding blockFar
   all-out h q p = p ∙ any-ext _ _ (length numbers) (λ j l.
-      ap₂ (λ (v : ℤ) (x : ℕ). farFrom (getD numbers j (pos 0)) v (run (bitsIn 8 s) (at + x * n) n) e) er (count-all marks i j (λ k g. h k (omega arith)))
-      ∙ sym (ap (λ (t : Bool). t && farFrom (getD numbers j (pos 0)) r (run (bitsIn 8 s) (at + count (hereFrom marks i) 0 j * n) n) e) (eq-eqb _ _ (h j l))))
+      ap₂ (λ (v : ℤ) (x : ℕ). farFrom (getD numbers j (pos 0)) v (run (bitsIn 8 s) (at + x * n) n) e) er
+      (count-all marks i j (λ k g. h k (omega arith)))
+      ∙ sym (ap
+      (λ (t : Bool). t
+      && farFrom (getD numbers j (pos 0)) r (run (bitsIn 8 s) (at + count (hereFrom marks i) 0 j * n) n) e)
+      (eq-eqb _ _ (h j l))))
 
   pub some-out : (m : ℕ) (chosen : List ℤ) → Gathered numbers marks i m chosen
-      → (q : Bool) → q ≡ anyBelow (λ j. farFrom (getD chosen j (pos 0)) rv (run (bitsIn 8 s) (at + j * n) n) e) m → q ≡ outs
-  unfolding blockOut
+      → (q : Bool) → q ≡ anyBelow (λ j. farFrom (getD chosen j (pos 0)) rv (run (bitsIn 8 s) (at + j * n) n) e) m
+      → q ≡ outs
+  unfolding blockFar
   some-out m chosen h q p =
       p ∙ ap (λ (v : ℤ). anyBelow (λ j. farFrom (getD chosen j (pos 0)) v (run (bitsIn 8 s) (at + j * n) n) e) m) er
       ∙ any-block numbers marks i m chosen h (λ j x. farFrom x r (run (bitsIn 8 s) (at + j * n) n) e)
@@ -82,19 +99,27 @@ pub none-passed : (marks : List ℕ) → 0 ≡ count (here marks) 0 0
 unfolding count
 none-passed marks = refl
 
-pub passed-more : (numbers : List ℤ) (marks : List ℕ) (i c : ℕ) (l : i + c ≤ length numbers) (passed m : ℕ) → passed ≡ count (here marks) 0 i
+pub passed-more : (numbers : List ℤ) (marks : List ℕ) (i c : ℕ) (l : i + c ≤ length numbers) (passed m : ℕ)
+    → passed ≡ count (here marks) 0 i
     → m ≡ count (hereFrom marks i) 0 (length (part numbers i c l)) → passed + m ≡ count (here marks) 0 (i + c)
-passed-more numbers marks i c l passed m h k = ap₂ (λ (x y : ℕ). x + y) h (k ∙ ap (count (hereFrom marks i) 0) (part-long numbers i c l)) ∙ count-from marks i c
+passed-more numbers marks i c l passed m h k =
+    ap₂ (λ (x y : ℕ). x + y) h (k ∙ ap (count (hereFrom marks i) 0) (part-long numbers i c l)) ∙ count-from marks i c
 
-module _ (s : List ℕ) (numbers : List ℤ) (marks : List ℕ) (from n : ℕ) (r : ℤ) (e i c : ℕ) (l : i + c ≤ length numbers) (passed : ℕ) (h : passed ≡ count (here marks) 0 i) where
+module _ (s : List ℕ) (numbers : List ℤ) (marks : List ℕ) (from n : ℕ) (r : ℤ) (e i c : ℕ) (l : i + c ≤ length numbers)
+    (passed : ℕ) (h : passed ≡ count (here marks) 0 i) where
   pub far-more : (x y : Bool) → x ≡ anyBelow (out s numbers marks from n r e) i
-      → y ≡ anyBelow (blockOut s (part numbers i c l) marks i (from + passed * n) n r e) (length (part numbers i c l))
+      → y ≡ anyBelow (blockFar s (part numbers i c l) marks i (from + passed * n) n r e) (length (part numbers i c l))
       → x || y ≡ anyBelow (out s numbers marks from n r e) (i + c)
-  unfolding out blockOut
+  unfolding out blockFar
   far-more x y ex ey =
       ap₂ (λ (a b : Bool). a || b) ex
-      (ey ∙ any-part numbers i c l (λ j v. eqb (markOf marks (i + j)) 1 && farFrom v r (run (bitsIn 8 s) (from + passed * n + count (hereFrom marks i) 0 j * n) n) e)
-      ∙ any-ext _ _ c (λ j _. ap (λ (p : ℕ). eqb (markOf marks (i + j)) 1 && farFrom (getD numbers (i + j) (pos 0)) r (run (bitsIn 8 s) p n) e) (place j)))
+      (ey ∙ any-part numbers i c l
+      (λ j v. eqb (markOf marks (i + j)) 1
+      && farFrom v r (run (bitsIn 8 s) (from + passed * n + count (hereFrom marks i) 0 j * n) n) e)
+      ∙ any-ext _ _ c
+      (λ j _. ap
+      (λ (p : ℕ). eqb (markOf marks (i + j)) 1 && farFrom (getD numbers (i + j) (pos 0)) r (run (bitsIn 8 s) p n) e)
+      (place j)))
       ∙ any-more (out s numbers marks from n r e) i c
     where
       place : (j : ℕ) → from + passed * n + count (hereFrom marks i) 0 j * n ≡ from + count (here marks) 0 (i + j) * n
@@ -103,7 +128,8 @@ module _ (s : List ℕ) (numbers : List ℤ) (marks : List ℕ) (from n : ℕ) (
           omega (arith, add-mul passed (count (hereFrom marks i) 0 j) n, ap (λ (x : ℕ). x * n) t)
 
 -- its place fits
-pub place-room : (marks : List ℕ) (n i passed : ℕ) → passed ≡ count (here marks) 0 i → i ≤ pointsMost → n ≤ bitsMost → (passed ≤ i) × (passed * n ≤ pointsMost * bitsMost)
+pub place-room : (marks : List ℕ) (n i passed : ℕ) → passed ≡ count (here marks) 0 i → i ≤ pointsMost → n ≤ bitsMost
+    → (passed ≤ i) × (passed * n ≤ pointsMost * bitsMost)
 place-room marks n i passed h k b =
     let m : passed ≤ i = subst (λ (x : ℕ). x ≤ i) (sym h) (count-le (here-bits marks) 0 i) in
     (m, mul-le-mul {n₂ = pointsMost} {m₂ = bitsMost} (omega arith) b)

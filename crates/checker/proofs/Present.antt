@@ -41,7 +41,8 @@ module _ (s : List ℕ) (lent : Lent) (f : Source) (points : length (f .numbers)
   abbrev place : ℕ → ℕ
   place i = dataPlace s lent + count (here (f .marks)) 0 i * bits
 
-  value-is : (i : ℕ) → i < pointsIn s → presentOf f i ≡ 1 → valueOf (valuesIn s lent) i ≡ run (bitsIn 8 s) (place i) bits
+  value-is : (i : ℕ) → i < pointsIn s → presentOf f i ≡ 1
+      → valueOf (valuesIn s lent) i ≡ run (bitsIn 8 s) (place i) bits
   unfolding valuesIn scattered presentCount
   value-is i l t =
       let there : presentIn s lent i ≡ 1 = same i l ∙ t in
@@ -49,14 +50,21 @@ module _ (s : List ℕ) (lent : Lent) (f : Source) (points : length (f .numbers)
       ∙ value-there (presentIn s lent) (dataIn s lent) i there
       ∙ data-at s lent (count (presentIn s lent) 0 i) (number-lt (presentIn s lent) i (pointsIn s) there l)
       ∙ ap (λ (c : ℕ). run (bitsIn 8 s) (dataPlace s lent + c * bits) bits)
-      (count-same (presentIn s lent) (here (f .marks)) (pointsIn s) (λ k g. same k g ∙ sym (here-mark (f .marks) k (marked k g))) i (omega arith))
+      (count-same (presentIn s lent) (here (f .marks)) (pointsIn s)
+      (λ k g. same k g ∙ sym (here-mark (f .marks) k (marked k g))) i (omega arith))
 
-  pub point-out : anyBelow (out s (f .numbers) (f .marks) (dataPlace s lent) bits (wholeOf (scaleIn s .r)) (natAbs (scaleIn s .e .value))) (length (f .numbers)) ≡ pointOut s lent f
+  pub point-out : anyBelow
+      (out s (f .numbers) (f .marks) (dataPlace s lent) bits (wholeOf (scaleIn s .r)) (natAbs (scaleIn s .e .value)))
+      (length (f .numbers)) ≡ pointOut s lent f
   unfolding pointOut anyPresent out
-  point-out = any-ext _ _ (length (f .numbers)) (λ i l. each i (subst (λ (n : ℕ). i < n) points l) (eqb (presentOf f i) 1) refl)
+  point-out =
+      any-ext _ _ (length (f .numbers)) (λ i l. each i (subst (λ (n : ℕ). i < n) points l) (eqb (presentOf f i) 1) refl)
     where
       each : (i : ℕ) → i < pointsIn s → (t : Bool) → eqb (presentOf f i) 1 ≡ t
-          → t && farFrom (numberOf f i) (wholeOf (scaleIn s .r)) (run (bitsIn 8 s) (place i) bits) (natAbs (scaleIn s .e .value))
-          ≡ t && farFrom (numberOf f i) (wholeOf (scaleIn s .r)) (valueOf (valuesIn s lent) i) (natAbs (scaleIn s .e .value))
+          → t && farFrom (numberOf f i) (wholeOf (scaleIn s .r)) (run (bitsIn 8 s) (place i) bits)
+          (natAbs (scaleIn s .e .value))
+          ≡ t && farFrom (numberOf f i) (wholeOf (scaleIn s .r)) (valueOf (valuesIn s lent) i)
+          (natAbs (scaleIn s .e .value))
       each i l false e = refl
-      each i l true e = ap (λ (x : ℕ). farFrom (numberOf f i) (wholeOf (scaleIn s .r)) x (natAbs (scaleIn s .e .value))) (sym (value-is i l (eqb-true _ _ e)))
+      each i l true e = ap (λ (x : ℕ). farFrom (numberOf f i) (wholeOf (scaleIn s .r)) x (natAbs (scaleIn s .e .value)))
+          (sym (value-is i l (eqb-true _ _ e)))

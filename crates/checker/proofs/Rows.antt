@@ -16,14 +16,16 @@ use Rattle.bits.proofs.Tests.{or-right}
 use Rattle.bits.specs.Bits.{bitsIn, run}
 use Rattle.bits.specs.Tables.{anyBelow}
 use Rattle.bits.proofs.Runs.{run-lt, bitsIn-bits}
-use Rattle.rules.specs.declared.{Places.Places, Bitmap.Bitmap, Packing.Packing, Scale.Scale, Signed.Signed, Header.Header}
+use Rattle.rules.specs.declared.{Places.Places, Bitmap.Bitmap, Packing.Packing, Scale.Scale, Signed.Signed}
+use Rattle.rules.specs.declared.{Header.Header}
 use Rattle.rules.specs.Bounds.{bdsHead, bitsMost, stepMost}
 use Rattle.rules.specs.Table.{anyOf, orAll}
 use Rattle.rules.specs.Numbers.{signed}
 use Rattle.rules.specs.Places.{pdsStart, hasGrid, hasBitmap, placesOf, sectionAt, after}
 use Rattle.rules.specs.Bitmap.{Lent, markOf, presentBy, bitmapOctets, inForce}
 use Rattle.rules.specs.Values.{packingFaults, wholeOf}
-use Rattle.rules.specs.Reading.{headerOf, foundIn, foundBy, pointsIn, bitmapIn, inForceIn, presentIn, packingIn, decimalIn}
+use Rattle.rules.specs.Reading.{headerOf, foundIn, foundBy, pointsIn, bitmapIn, inForceIn, presentIn, packingIn}
+use Rattle.rules.specs.Reading.{decimalIn}
 use Rattle.rules.specs.Checking.{Source, sourceFaults, decimalDiffers, sourceDiffers, scaleFaults, pointOut}
 use Rattle.laws.proofs.Rows.{none-of}
 use Rattle.laws.proofs.Judged.{judged}
@@ -36,7 +38,8 @@ use Rattle.checker.specs.Points.{out}
 use Rattle.checker.proofs.Present.{point-out}
 
 -- 16, of E read back as z and of R
-pub scale-is : (c : Scale) (z : ℤ) (w : Bool) → z ≡ c .e .value → w ≡ wholeBad (c .r) → ltZ z (pos 0) || ltZ (pos stepMost) z || w ≡ anyOf (scaleFaults c)
+pub scale-is : (c : Scale) (z : ℤ) (w : Bool) → z ≡ c .e .value → w ≡ wholeBad (c .r)
+    → ltZ z (pos 0) || ltZ (pos stepMost) z || w ≡ anyOf (scaleFaults c)
 unfolding anyOf orAll scaleFaults wholeBad
 scale-is c z w e h = rw (e, h) (sym (or-assoc (ltZ (c .e .value) (pos 0) || ltZ (pos stepMost) (c .e .value)) _ _))
 
@@ -50,10 +53,12 @@ module _ (c : Scale) (h : anyOf (scaleFaults c) ≡ false) where
   whole-is = let b : wholeBad (c .r) ≡ false = or-right (ltZ (c .e .value) (pos 0) || ltZ (pos stepMost) (c .e .value)) (wholeBad (c .r)) (scale-is c _ _ refl refl ∙ h) in rw b
 
 -- E for the walk
-pub step-none : (c : Scale) (b : Bool) → b ≡ anyOf (scaleFaults c) → b ≡ true → (0 ≤ stepMost) × (anyOf (scaleFaults c) ≡ false → 0 ≡ natAbs (c .e .value))
+pub step-none : (c : Scale) (b : Bool) → b ≡ anyOf (scaleFaults c) → b ≡ true
+    → (0 ≤ stepMost) × (anyOf (scaleFaults c) ≡ false → 0 ≡ natAbs (c .e .value))
 step-none c b e t = (omega arith, λ f. absurd (subst T (sym t ∙ e ∙ f) tt))
 
-pub step-some : (c : Scale) (b : Bool) (z : ℤ) → z ≡ c .e .value → b ≡ anyOf (scaleFaults c) → b ≡ false → (natAbs z ≤ stepMost) × (anyOf (scaleFaults c) ≡ false → natAbs z ≡ natAbs (c .e .value))
+pub step-some : (c : Scale) (b : Bool) (z : ℤ) → z ≡ c .e .value → b ≡ anyOf (scaleFaults c) → b ≡ false
+    → (natAbs z ≤ stepMost) × (anyOf (scaleFaults c) ≡ false → natAbs z ≡ natAbs (c .e .value))
 step-some c b z e p t = (step-is c (sym p ∙ t) z e .1, λ f. ap natAbs e)
 
 -- D fits
@@ -106,7 +111,8 @@ module _ (s : List ℕ) (lent : Lent) (h : Header) (e : h ≡ headerOf s lent) (
   data-start = subst (λ (x : Places). x .bds .start < 2 ^ 26) (sym (S.places-of s lent h e z)) (start-small s)
 
 -- 15 and 17, from the header
-module _ (s : List ℕ) (lent : Lent) (h : Header) (e : h ≡ headerOf s lent) (z : h .refusal .number ≡ 0) (numbers : List ℤ) (marks : List ℕ) (d : ℤ) where
+module _ (s : List ℕ) (lent : Lent) (h : Header) (e : h ≡ headerOf s lent) (z : h .refusal .number ≡ 0)
+    (numbers : List ℤ) (marks : List ℕ) (d : ℤ) where
   abbrev source : Source
   source = record { numbers = numbers; marks = marks; d = d }
 
@@ -119,35 +125,63 @@ module _ (s : List ℕ) (lent : Lent) (h : Header) (e : h ≡ headerOf s lent) (
 
   -- 15
   pub differ-is : (dv : ℤ) → dv ≡ d → (u t : Bool) → t ≡ decimalDiffers (toZ w32 (ofZ w32 (h .d .value))) dv
-      → u ≡ anyBelow (λ i. not (eqb (presentBy (h .bitmap) (bitmapOctets s (lent .octets) (inForce (h .bitmap) (h .places .bms) (length numbers))) i) (markOf marks i))) (length numbers)
+      → u ≡ anyBelow
+      (λ i. not
+      (eqb (presentBy (h .bitmap)
+      (bitmapOctets s (lent .octets) (inForce (h .bitmap) (h .places .bms) (length numbers))) i) (markOf marks i)))
+      (length numbers)
       → not (eqb (length numbers) (h .points)) || u || t ≡ anyOf (sourceDiffers s lent source)
   unfolding anyOf orAll sourceDiffers presentIn inForceIn
-  differ-is dv ed u t et eu = ap (λ (y : ℕ). not (eqb (length numbers) y) || u || t) points-of ∙ go (eqb (length numbers) (pointsIn s)) refl
+  differ-is dv ed u t et eu =
+      ap (λ (y : ℕ). not (eqb (length numbers) y) || u || t) points-of ∙ go (eqb (length numbers) (pointsIn s)) refl
     where
       decimal : t ≡ decimalDiffers (decimalIn s .value) d
       decimal = et ∙ ap₂ decimalDiffers (ap (λ (x : Signed). toZ w32 (ofZ w32 (x .value))) d-of ∙ toZ-ofZ {w = w32} {z = decimalIn s .value} (record { sfits = decimal-fits s })) ed
 
-      alike : length numbers ≡ pointsIn s → u ≡ anyBelow (λ i. not (eqb (presentBy (bitmapIn s) (bitmapOctets s (lent .octets) (inForce (bitmapIn s) (placesOf s .bms) (pointsIn s))) i) (markOf marks i))) (pointsIn s)
+      alike : length numbers ≡ pointsIn s
+          → u ≡ anyBelow
+          (λ i. not
+          (eqb (presentBy (bitmapIn s)
+          (bitmapOctets s (lent .octets) (inForce (bitmapIn s) (placesOf s .bms) (pointsIn s))) i) (markOf marks i)))
+          (pointsIn s)
       alike n =
-          eu ∙ ap {B = Bool} (λ (x : ℕ). anyBelow (λ i. not (eqb (presentBy (h .bitmap) (bitmapOctets s (lent .octets) (inForce (h .bitmap) (h .places .bms) x)) i) (markOf marks i))) x) n
-          ∙ ap₂ (λ (x : Bitmap) (y : Places). anyBelow (λ i. not (eqb (presentBy x (bitmapOctets s (lent .octets) (inForce x (y .bms) (pointsIn s))) i) (markOf marks i))) (pointsIn s))
+          eu ∙ ap {B = Bool}
+          (λ (x : ℕ). anyBelow
+          (λ i. not
+          (eqb (presentBy (h .bitmap) (bitmapOctets s (lent .octets) (inForce (h .bitmap) (h .places .bms) x)) i)
+          (markOf marks i))) x) n
+          ∙ ap₂ (λ (x : Bitmap) (y : Places). anyBelow
+          (λ i. not
+          (eqb (presentBy x (bitmapOctets s (lent .octets) (inForce x (y .bms) (pointsIn s))) i) (markOf marks i)))
+          (pointsIn s))
           (S.bitmap-of s lent h e z) (S.places-of s lent h e z)
 
       go : (c : Bool) → eqb (length numbers) (pointsIn s) ≡ c
           → not c || u || t
-          ≡ not c || anyBelow (λ i. not (eqb (presentBy (bitmapIn s) (bitmapOctets s (lent .octets) (inForce (bitmapIn s) (placesOf s .bms) (pointsIn s))) i) (markOf marks i))) (pointsIn s) || decimalDiffers (decimalIn s .value) d
+          ≡ not c || anyBelow
+          (λ i. not
+          (eqb (presentBy (bitmapIn s)
+          (bitmapOctets s (lent .octets) (inForce (bitmapIn s) (placesOf s .bms) (pointsIn s))) i) (markOf marks i)))
+          (pointsIn s) || decimalDiffers (decimalIn s .value) d
       go true q = ap₂ (λ (x y : Bool). x || y) (alike (eqb-true _ _ q)) decimal
       go false q = refl
 
   -- 17, once 18 and 15 have passed
   pub out-is : anyOf (sourceFaults source) ≡ false → anyOf (sourceDiffers s lent source) ≡ false → (r : Bool)
-      → r ≡ anyBelow (out s numbers marks ((h .places .bds .start + bdsHead) * 8) (h .packing .bits) (wholeOf (h .scale .r)) (natAbs (h .scale .e .value))) (length numbers)
+      → r ≡ anyBelow
+      (out s numbers marks ((h .places .bds .start + bdsHead) * 8) (h .packing .bits) (wholeOf (h .scale .r))
+      (natAbs (h .scale .e .value))) (length numbers)
       → r ≡ pointOut s lent source
   out-is w a r q =
       let g = agrees s lent source a in
       q
-      ∙ ap₂ (λ (x : Places) (y : Packing). anyBelow (out s numbers marks ((x .bds .start + bdsHead) * 8) (y .bits) (wholeOf (h .scale .r)) (natAbs (h .scale .e .value))) (length numbers))
+      ∙ ap₂ (λ (x : Places) (y : Packing). anyBelow
+      (out s numbers marks ((x .bds .start + bdsHead) * 8) (y .bits) (wholeOf (h .scale .r))
+      (natAbs (h .scale .e .value))) (length numbers))
       (S.places-of s lent h e z) (S.packing-of s lent h e z)
-      ∙ ap (λ (x : Scale). anyBelow (out s numbers marks (dataPlace s lent) (packingIn s .bits) (wholeOf (x .r)) (natAbs (x .e .value))) (length numbers))
+      ∙ ap (λ (x : Scale). anyBelow
+      (out s numbers marks (dataPlace s lent) (packingIn s .bits) (wholeOf (x .r)) (natAbs (x .e .value)))
+      (length numbers))
       (S.scale-of s lent h e z)
-      ∙ point-out s lent source (g .points) (g .marks) (λ i l. well-formed source w .marks i (subst (λ (n : ℕ). i < n) (sym (g .points)) l))
+      ∙ point-out s lent source (g .points) (g .marks)
+      (λ i l. well-formed source w .marks i (subst (λ (n : ℕ). i < n) (sym (g .points)) l))

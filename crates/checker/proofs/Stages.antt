@@ -22,26 +22,29 @@ use Rattle.message.proofs.Said as S
 use Rattle.reply.proofs.Stages.{or-append, staged}
 use Rattle.source.specs.Whole.{wholeFrom}
 use Rattle.checker.specs.Points.{out}
-use Rattle.checker.specs.Stages.{sourceRows}
+use Rattle.checker.specs.Stages.{checkRows}
 use Rattle.checker.proofs.Rows.{whole-is, differ-is, out-is}
 
 -- the message's own rows first
 module _ (s : List ℕ) (lent : Lent) (f : Source) where
-  own-first : checkOf s lent f ≡ cond (accepted (ownRefusal s lent)) (firstOr (sourceRows s lent f) (refusal 0)) (ownRefusal s lent)
-  unfolding checkOf checkTable sourceRows ownRefusal messageTable first firstOr
+  own-first : checkOf s lent f
+      ≡ cond (accepted (ownRefusal s lent)) (firstOr (checkRows s lent f) (refusal 0)) (ownRefusal s lent)
+  unfolding checkOf checkTable checkRows ownRefusal messageTable first firstOr
   own-first =
-      or-append (messageTable s lent) (sourceRows s lent f) (refusal 0)
-      ∙ staged (messageTable s lent) (firstOr (sourceRows s lent f) (refusal 0)) (tt, (tt, (tt, (tt, (tt, (tt, (tt, (tt, (tt, (tt, (tt, (tt, tt))))))))))))
+      or-append (messageTable s lent) (checkRows s lent f) (refusal 0)
+      ∙ staged (messageTable s lent) (firstOr (checkRows s lent f) (refusal 0))
+      (tt, (tt, (tt, (tt, (tt, (tt, (tt, (tt, (tt, (tt, (tt, (tt, tt))))))))))))
 
   module _ (h : Header) (e : h ≡ headerOf s lent) where
     pub own-refused : (h .refusal .number ≡ 0 → ⊥) → h .refusal ≡ checkOf s lent f
     own-refused n = S.own s lent h e ∙ sym (own-first ∙ rw (S.refused s lent h e n))
 
-    judged-of : h .refusal .number ≡ 0 → firstOr (sourceRows s lent f) (refusal 0) ≡ checkOf s lent f
+    judged-of : h .refusal .number ≡ 0 → firstOr (checkRows s lent f) (refusal 0) ≡ checkOf s lent f
     judged-of n = sym (own-first ∙ rw (S.taken s lent h e n))
 
-pub source-judged : (s : List ℕ) (lent : Lent) (numbers : List ℤ) (marks : List ℕ) (d dv : ℤ) → dv ≡ d → (h : Header) → h ≡ headerOf s lent → h .refusal .number ≡ 0
-    → (r : Refusal) → r ≡ firstOr (sourceRows s lent (record { numbers = numbers; marks = marks; d = dv })) (refusal 0)
+pub source-judged : (s : List ℕ) (lent : Lent) (numbers : List ℤ) (marks : List ℕ) (d dv : ℤ) → dv ≡ d → (h : Header)
+    → h ≡ headerOf s lent → h .refusal .number ≡ 0
+    → (r : Refusal) → r ≡ firstOr (checkRows s lent (record { numbers = numbers; marks = marks; d = dv })) (refusal 0)
     → r ≡ checkOf s lent (record { numbers = numbers; marks = marks; d = d })
 source-judged s lent numbers marks d dv ed h e n r q =
     q ∙ judged-of s lent _ h e n ∙ ap (λ (x : ℤ). checkOf s lent (record { numbers = numbers; marks = marks; d = x })) ed
@@ -59,15 +62,16 @@ answers a15 b15 a16 b16 a17 b17 e15 e16 e17 = rw (e15, e16) (go b15 b16 e17)
     go false true f = refl
     go false false f = ap (λ (t : Bool). cond t (refusal 17) (refusal 0)) (f refl refl)
 
-module _ (s : List ℕ) (lent : Lent) (numbers : List ℤ) (marks : List ℕ) (d : ℤ) (bad : Bool) (t : bad ≡ anyOf (sourceFaults (record { numbers = numbers; marks = marks; d = d }))) where
+module _ (s : List ℕ) (lent : Lent) (numbers : List ℤ) (marks : List ℕ) (d : ℤ) (bad : Bool)
+    (t : bad ≡ anyOf (sourceFaults (record { numbers = numbers; marks = marks; d = d }))) where
   abbrev source : Source
   source = record { numbers = numbers; marks = marks; d = d }
 
   abbrev reply : Refusal
-  reply = firstOr (sourceRows s lent source) (refusal 0)
+  reply = firstOr (checkRows s lent source) (refusal 0)
 
   pub source-refused : bad ≡ true → (r : Refusal) → r ≡ refusal 18 → r ≡ reply
-  unfolding firstOr sourceRows
+  unfolding firstOr checkRows
   source-refused b r e = rw (sym t ∙ b) e
 
   -- d is read back as dv, R as rv, and they and E are the message's where 16 passes
@@ -78,21 +82,30 @@ module _ (s : List ℕ) (lent : Lent) (numbers : List ℤ) (marks : List ℕ) (d
     module _ (h : Header) (e : h ≡ headerOf s lent) (z : h .refusal .number ≡ 0) (dv : ℤ) (ed : dv ≡ d) (rv : ℤ) (er : rv ≡ wholeFrom (h .scale .r))
         (st : ℕ) (es : anyOf (scaleFaults (h .scale)) ≡ false → st ≡ natAbs (h .scale .e .value)) where
       abbrev outs : ℤ → ℕ → Bool
-      outs r e = anyBelow (out s numbers marks ((h .places .bds .start + bdsHead) * 8) (h .packing .bits) r e) (length numbers)
+      outs r e = anyBelow (out s numbers marks ((h .places .bds .start + bdsHead) * 8) (h .packing .bits) r e)
+          (length numbers)
 
       pub first-of : (u : Bool)
-          → u ≡ anyBelow (λ i. not (eqb (presentBy (h .bitmap) (bitmapOctets s (lent .octets) (inForce (h .bitmap) (h .places .bms) (length numbers))) i) (markOf marks i))) (length numbers)
-          → (td : Bool) → td ≡ decimalDiffers (toZ w32 (ofZ w32 (h .d .value))) dv → (x : Bool) → x ≡ outs rv st → (b16 : Bool) → b16 ≡ anyOf (scaleFaults (h .scale))
+          → u ≡ anyBelow
+          (λ i. not
+          (eqb (presentBy (h .bitmap)
+          (bitmapOctets s (lent .octets) (inForce (h .bitmap) (h .places .bms) (length numbers))) i)
+          (markOf marks i))) (length numbers)
+          → (td : Bool) → td ≡ decimalDiffers (toZ w32 (ofZ w32 (h .d .value))) dv → (x : Bool) → x ≡ outs rv st
+          → (b16 : Bool) → b16 ≡ anyOf (scaleFaults (h .scale))
           → (r0 r15 r16 r17 : Refusal) → r0 ≡ refusal 0 → r17 ≡ cond x (refusal 17) r0 → r16 ≡ cond b16 (refusal 16) r17
           → r15 ≡ cond (not (eqb (length numbers) (h .points)) || u || td) (refusal 15) r16 → r15 ≡ reply
-      unfolding firstOr sourceRows
+      unfolding firstOr checkRows
       first-of u eu td et x ex b16 e16 r0 r15 r16 r17 p0 p17 p16 p15 =
           let g = S.scale-of s lent h e z in
           rw (sym t ∙ b)
-          (p15 ∙ ap (cond (not (eqb (length numbers) (h .points)) || u || td) (refusal 15)) (p16 ∙ ap (cond b16 (refusal 16)) (p17 ∙ ap (cond x (refusal 17)) p0))
+          (p15 ∙ ap (cond (not (eqb (length numbers) (h .points)) || u || td) (refusal 15))
+          (p16 ∙ ap (cond b16 (refusal 16)) (p17 ∙ ap (cond x (refusal 17)) p0))
           ∙ answers _ _ _ _ _ _ (differ-is s lent h e z numbers marks d dv ed u td et eu)
           (e16 ∙ ap (λ (y : Scale). anyOf (scaleFaults y)) g)
-          (λ f15 f16. out-is s lent h e z numbers marks d (sym t ∙ b) f15 x (ex ∙ scaled (ap (λ (y : Scale). anyOf (scaleFaults y)) g ∙ f16))))
+          (λ f15 f16. out-is s lent h e z numbers marks d (sym t ∙ b) f15 x
+          (ex ∙ scaled (ap (λ (y : Scale). anyOf (scaleFaults y)) g ∙ f16))))
         where
-          scaled : anyOf (scaleFaults (h .scale)) ≡ false → outs rv st ≡ outs (wholeOf (h .scale .r)) (natAbs (h .scale .e .value))
+          scaled : anyOf (scaleFaults (h .scale)) ≡ false
+              → outs rv st ≡ outs (wholeOf (h .scale .r)) (natAbs (h .scale .e .value))
           scaled f = ap₂ outs (er ∙ whole-is (h .scale) f) (es f)

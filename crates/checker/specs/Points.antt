@@ -13,9 +13,12 @@ use Rattle.gathering.specs.Gather.{hereFrom}
 
 -- a present point is out by more than half a step
 unfoldable pub out : List ℕ → List ℤ → List ℕ → ℕ → ℕ → ℤ → ℕ → ℕ → Bool
-out s numbers marks from n r e i = eqb (markOf marks i) 1 && farFrom (getD numbers i (pos 0)) r (run (bitsIn 8 s) (from + count (here marks) 0 i * n) n) e
+out s numbers marks from n r e i =
+    eqb (markOf marks i) 1
+    && farFrom (getD numbers i (pos 0)) r (run (bitsIn 8 s) (from + count (here marks) 0 i * n) n) e
 
 -- the same of point j of a block, whose first point is point i of all, and its first X at bit place `at`
-unfoldable pub blockOut : List ℕ → List ℤ → List ℕ → ℕ → ℕ → ℕ → ℤ → ℕ → ℕ → Bool
-blockOut s numbers marks i at n r e j =
-    eqb (markOf marks (i + j)) 1 && farFrom (getD numbers j (pos 0)) r (run (bitsIn 8 s) (at + count (hereFrom marks i) 0 j * n) n) e
+unfoldable pub blockFar : List ℕ → List ℤ → List ℕ → ℕ → ℕ → ℕ → ℤ → ℕ → ℕ → Bool
+blockFar s numbers marks i at n r e j =
+    eqb (markOf marks (i + j)) 1
+    && farFrom (getD numbers j (pos 0)) r (run (bitsIn 8 s) (at + count (hereFrom marks i) 0 j * n) n) e

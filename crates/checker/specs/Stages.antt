@@ -6,6 +6,7 @@ use Rattle.rules.specs.Bitmap.{Lent}
 use Rattle.rules.specs.Reading.{scaleIn}
 use Rattle.rules.specs.Checking.{Source, sourceFaults, sourceDiffers, scaleFaults, pointOut}
 
-unfoldable pub sourceRows : List ℕ → Lent → Source → List Row
-sourceRows s lent f =
-    row 18 (anyOf (sourceFaults f)) ∷ row 15 (anyOf (sourceDiffers s lent f)) ∷ row 16 (anyOf (scaleFaults (scaleIn s))) ∷ row 17 (pointOut s lent f) ∷ []
+unfoldable pub checkRows : List ℕ → Lent → Source → List Row
+checkRows s lent f =
+    row 18 (anyOf (sourceFaults f)) ∷ row 15 (anyOf (sourceDiffers s lent f)) ∷ row 16 (anyOf (scaleFaults (scaleIn s)))
+    ∷ row 17 (pointOut s lent f) ∷ []

@@ -1,9 +1,11 @@
-// Refusals 18, 15, 16 and 17 of a message whose own refusals, 1 to 12, have passed. Once 18 has passed too, 15, 16 and 17 are all judged, and
-// the first that applies is chosen after.
+// Refusals 18, 15, 16 and 17 of a message whose own refusals, 1 to 12, have passed. Once 18 has passed too, 15, 16 and
+// 17 are all judged, and the first that applies is chosen after.
 ghost use mathlib.Core.Path.{_≡_};
 ghost use Rattle.rules.specs.Table.{firstOr, refusal as theRefusal};
 ghost use Rattle.rules.specs.Reading.{headerOf};
-ghost use Rattle.checker.specs.Stages.{sourceRows};
+ghost use Rattle.checker.specs.Stages.{checkRows};
+ghost use Rattle.rules.specs.Bitmap.{lentAs};
+ghost use Rattle.rules.specs.Checking.{sourceAs};
 use crate::points::any_far;
 use crate::points::marks_differ;
 use crate::steps::scale_bad;
@@ -27,8 +29,11 @@ pub(crate) fn judge(
     marks: &[u8],
     d: i32,
 ) -> Refusal
-    requires { ⌜ (h ≡ headerOf (now s) (record { number = number; octets = now store })) × (h .refusal .number ≡ 0) ⌝ }
-    ensures { λ r. ⌜ r ≡ firstOr (sourceRows (now (s .entry)) (record { number = number; octets = now (store .entry) }) (record { numbers = now (numbers .entry); marks = now (marks .entry); d = d })) (theRefusal 0) ⌝ }
+    requires { ⌜ (h ≡ headerOf (now s) (lentAs number (now store))) × (h .refusal .number ≡ 0) ⌝ }
+    ensures { λ r. ⌜ r ≡
+        firstOr
+        (checkRows (now (s .entry)) (lentAs number (now (store .entry)))
+        (sourceAs (now (numbers .entry)) (now (marks .entry)) d)) (theRefusal 0) ⌝ }
 {
     if source_bad(numbers, marks) {
         return refusal(18);

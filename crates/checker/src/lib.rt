@@ -1,7 +1,8 @@
-// The check of a message against its source field. Refusals 1 to 12 are the message's own; then 18, 15, 16 and 17, of the message's
-// points and the source. Total, and linear in the points.
+// The check of a message against its source field. Refusals 1 to 12 are the message's own; then 18, 15, 16 and 17, of
+// the message's points and the source. Total, and linear in the points.
 ghost use mathlib.Core.Path.{_≡_};
-ghost use Rattle.rules.specs.Checking.{checkOf};
+ghost use Rattle.rules.specs.Checking.{checkOf, sourceAs};
+ghost use Rattle.rules.specs.Bitmap.{lentAs};
 
 mod judging; // judging.rt: refusals 18, 15, 16 and 17 of a message that is taken
 mod points; // points.rt: the points, judged and compared
@@ -13,7 +14,9 @@ use rules::Refusal;
 
 // The reply to a message (with the stored bitmap of a number lent) and a source field: 0 says yes.
 pub fn check(s: &[u8], number: u16, store: &[u8], numbers: &[i32], marks: &[u8], d: i32) -> Refusal
-    ensures { λ r. ⌜ r ≡ checkOf (now (s .entry)) (record { number = number; octets = now (store .entry) }) (record { numbers = now (numbers .entry); marks = now (marks .entry); d = d }) ⌝ }
+    ensures { λ r. ⌜ r ≡
+        checkOf (now (s .entry)) (lentAs number (now (store .entry)))
+        (sourceAs (now (numbers .entry)) (now (marks .entry)) d) ⌝ }
 {
     let h = header(s, number, store);
     let own = h.refusal;

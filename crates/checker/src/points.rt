@@ -1,6 +1,6 @@
-// The points: the source's marks are compared with the message's (15), and each present number with what the message says of it (17). The
-// numbers at the present points of a block are gathered, as many X unpacked, and both compared, each in a loop of its own without a branch on a
-// mark. Where every point is present nothing is gathered.
+// The points: the source's marks are compared with the message's (15), and each present number with what the message
+// says of it (17). The numbers at the present points of a block are gathered, as many X unpacked, and both compared,
+// each in a loop of its own without a branch on a mark. Where every point is present nothing is gathered.
 ghost use mathlib.Core.Path.{_≡_};
 ghost use mathlib.Core.Bool.{not, true};
 ghost use Prim.Native.Nat.{ℕ, _+_, _*_, _^_, _<_, _≤_};
@@ -13,7 +13,7 @@ ghost use Rattle.rules.specs.Bounds.{pointsMost, bitsMost, stepMost};
 ghost use Rattle.rules.specs.Bitmap.{markOf, marksLong, presentBy, bitmapOctets, inForce};
 ghost use Rattle.rules.specs.Checking.{farFrom};
 ghost use Rattle.gathering.specs.Gather.{hereFrom};
-ghost use Rattle.checker.specs.Points.{out as isOut, blockOut};
+ghost use Rattle.checker.specs.Points.{out as isOut, blockFar};
 use crate::steps::far;
 use gathering::gather_numbers;
 use marks::all_present;
@@ -34,7 +34,9 @@ pub(crate) fn marks_differ(
 ) -> bool
     ensures { λ q. ⌜ q ≡
         anyBelow
-        (λ i. not (eqb (presentBy bitmap (bitmapOctets (now (s .entry)) (now (store .entry)) (inForce bitmap bms n)) i) (markOf (now (marks .entry)) i)))
+        (λ i. not
+        (eqb (presentBy bitmap (bitmapOctets (now (s .entry)) (now (store .entry)) (inForce bitmap bms n)) i)
+        (markOf (now (marks .entry)) i)))
         n ⌝ }
 {
     match bitmap {
@@ -86,7 +88,9 @@ fn far_at(
     requires { ⌜ (e ≤ stepMost) × (n ≤ bitsMost) ⌝ }
     requires { ⌜ (c ≤ length (now numbers)) × ((c ≤ length (now held)) × (c < 2 ^ 32)) ⌝ }
     ensures { λ q. ⌜ q ≡
-        anyBelow (λ j. farFrom (getD (now (numbers .entry)) j (pos 0)) r (run (bitsIn 8 (now (s .entry))) (at + j * n) n) e) c ⌝ }
+        anyBelow
+        (λ j. farFrom (getD (now (numbers .entry)) j (pos 0)) r (run (bitsIn 8 (now (s .entry))) (at + j * n) n) e)
+        c ⌝ }
 {
     unpack(s, at, n, held, c as u32);
     few_far(numbers, held, c, r, e)
@@ -115,10 +119,12 @@ fn block_far(
     requires { ⌜ (e ≤ stepMost) × (n ≤ bitsMost) ⌝ }
     requires { ⌜ (all ≡ true → (j : ℕ) → j < length (now numbers) → markOf (now marks) (i + j) ≡ 1) ⌝ }
     requires { ⌜ i + length (now numbers) ≤ length (now marks) ⌝ }
-    requires { ⌜ (length (now numbers) ≤ length (now chosen)) × ((length (now numbers) ≤ length (now held)) × (length (now numbers) < 2 ^ 32)) ⌝ }
+    requires { ⌜ (length (now numbers) ≤ length (now chosen))
+        × ((length (now numbers) ≤ length (now held)) × (length (now numbers) < 2 ^ 32)) ⌝ }
     ensures { λ q. ⌜ q .passed ≡ count (hereFrom (now (marks .entry)) i) 0 (length (now (numbers .entry))) ⌝ }
     ensures { λ q. ⌜ q .out ≡
-        anyBelow (blockOut (now (s .entry)) (now (numbers .entry)) (now (marks .entry)) i at n r e) (length (now (numbers .entry))) ⌝ }
+        anyBelow (blockFar (now (s .entry)) (now (numbers .entry)) (now (marks .entry)) i at n r e)
+        (length (now (numbers .entry))) ⌝ }
 {
     let c = numbers.len();
     if all {
@@ -134,7 +140,8 @@ fn block_far(
     }
 }
 
-// Whether a present point is out by more than half a step. The data's values have n bits each, from bit place `from` on.
+// Whether a present point is out by more than half a step. The data's values have n bits each, from bit place `from`
+// on.
 pub(crate) fn any_far(
     s: &[u8],
     numbers: &[i32],
@@ -147,7 +154,8 @@ pub(crate) fn any_far(
     requires { ⌜ (e ≤ stepMost) × ((n ≤ bitsMost) × (from < 2 ^ 31)) ⌝ }
     requires { ⌜ (marksLong (length (now numbers)) ≡ length (now marks)) × (length (now numbers) ≤ pointsMost) ⌝ }
     ensures { λ q. ⌜ q ≡
-        anyBelow (isOut (now (s .entry)) (now (numbers .entry)) (now (marks .entry)) from n r e) (length (now (numbers .entry))) ⌝ }
+        anyBelow (isOut (now (s .entry)) (now (numbers .entry)) (now (marks .entry)) from n r e)
+        (length (now (numbers .entry))) ⌝ }
 {
     let all = all_present(marks, numbers.len() as u32);
     let mut chosen = [0i32; BLOCK];

@@ -1,5 +1,5 @@
-// Refusal 17: how far a source number lies from what the message says of its point. Numbers are lifted by 2^31, so that all of it is done
-// in unsigned numbers.
+// Refusal 17: how far a source number lies from what the message says of its point. Numbers are lifted by 2^31, so that
+// all of it is done in unsigned numbers.
 ghost use mathlib.Core.Path.{_≡_};
 ghost use mathlib.Core.Bool.{false};
 ghost use Prim.Native.Nat.{_*_, _^_, _<_, _≤_};
@@ -11,6 +11,7 @@ use rules::Scale;
 use rules::bounds::STEP_MOST;
 use source::whole_bad;
 
+// A number lifted by 2^31, which leaves none below 0.
 fn lifted(v: i32) -> u64
     ensures { λ r. ⌜ (pos r ≡ v +ℤ pos 2147483648) × (r < 2 ^ 32) ⌝ }
 {
@@ -25,6 +26,7 @@ fn power(e: u32) -> u64
     1 << e
 }
 
+// Twice a number, so that half a step is a whole one.
 fn twice(a: u64) -> u64
     requires { ⌜ a < 2 ^ 62 ⌝ }
     ensures { λ r. ⌜ r ≡ a * 2 ⌝ }
@@ -43,7 +45,7 @@ pub(crate) fn far(v: i32, r: i32, x: u32, e: u32) -> bool
     (given + step < said) | (said + step < given)
 }
 
-// Refusal 16.
+// Refusal 16: E outside 0 to 24, or R not a whole number within its bound.
 pub(crate) fn scale_bad(c: Scale) -> bool
     ensures { λ r. ⌜ r ≡ anyOf (scaleFaults c) ⌝ }
 {

@@ -1,4 +1,5 @@
-// One of two answers, one of two numbers, and a difference cut at 0: said in one line where a branch would part a proof. All total.
+// One of two answers, one of two numbers, and a difference cut at 0: said in one line where a branch would part a
+// proof. All total.
 ghost use mathlib.Core.Path.{_≡_};
 ghost use mathlib.Core.Bool.{cond};
 ghost use Prim.Native.Nat.{_-_};

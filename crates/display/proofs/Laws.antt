@@ -30,17 +30,20 @@ no true c q = absurd (subst T q tt)
 no false true q = absurd (subst T q tt)
 no false false q = (tt, tt)
 
-pub in-range : (c : Scale) (t : Bool) → t ≡ beyond c → t ≡ false → (shownLeast ≤ℤ c .e .value) × (c .e .value ≤ℤ shownMost)
+pub in-range : (c : Scale) (t : Bool) → t ≡ beyond c → t ≡ false
+    → (shownLeast ≤ℤ c .e .value) × (c .e .value ≤ℤ shownMost)
 in-range c t q k =
     let n = no (ltZ (c .e .value) shownLeast) (ltZ shownMost (c .e .value)) (sym q ∙ k) in
     (ltZ-no (n .0), ltZ-no (n .1))
 
 module _ (s : List ℕ) (lent : Lent) (h : Header) (e : h ≡ headerOf s lent) where
-  answer : (x : Refusal) → first (displayTable s lent) ≡ x → displayOf s lent ≡ cond (accepted x) (full x (scaleIn s)) (blank x)
+  answer : (x : Refusal) → first (displayTable s lent) ≡ x
+      → displayOf s lent ≡ cond (accepted x) (full x (scaleIn s)) (blank x)
   unfolding displayOf
   answer x q = ap (λ (r : Refusal). cond (accepted r) (full r (scaleIn s)) (blank r)) q
 
-  table : first (displayTable s lent) ≡ cond (accepted (ownRefusal s lent)) (cond (beyond (scaleIn s)) (refusal 16) (refusal 0)) (ownRefusal s lent)
+  table : first (displayTable s lent)
+      ≡ cond (accepted (ownRefusal s lent)) (cond (beyond (scaleIn s)) (refusal 16) (refusal 0)) (ownRefusal s lent)
   unfolding displayTable
   table = one-more s lent 16 (beyond (scaleIn s))
 

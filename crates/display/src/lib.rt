@@ -1,4 +1,5 @@
-// The display record of a message: R and 2^E as IEEE doubles of exactly those values, by their bits. Total; refusal 16 comes after 1 to 12.
+// The display record of a message: R and 2^E as IEEE doubles of exactly those values, by their bits. Total; refusal 16
+// comes after 1 to 12.
 ghost use mathlib.Core.Path.{_≡_};
 ghost use Prim.Native.Nat.{_<_};
 ghost use lib.Ieee.{binary64, ofBits};
@@ -7,6 +8,7 @@ ghost use mathlib.Core.Bool.{_||_};
 ghost use Rattle.rules.specs.Bounds.{shownLeast, shownMost};
 ghost use Rattle.rules.specs.Table.{refusal as theRefusal};
 ghost use Rattle.rules.specs.Display.{refBits, stepBits, shownReference, shownStep, displayOf};
+ghost use Rattle.rules.specs.Bitmap.{lentAs};
 use message::header;
 use reply::refusal;
 use rules::Display;
@@ -16,8 +18,8 @@ use rules::Signed;
 use rules::bounds::SHOWN_LEAST;
 use rules::bounds::SHOWN_MOST;
 
-// The bits of R as a double: sign s, exponent a, digits b. Its leading one is not written, so the digits move up to the exponent's field;
-// 773 is `refExponent`.
+// The bits of R as a double: sign s, exponent a, digits b. Its leading one is not written, so the digits move up to the
+// exponent's field; 773 is `refExponent`.
 fn ref_bits(s: u64, a: u64, b: u32) -> u64
     requires { ⌜ (s < 2) × (a < 128) × (b < 16777216) ⌝ }
     ensures { λ r. ⌜ r ≡ refBits s a b ⌝ }
@@ -59,7 +61,8 @@ fn refused(refusal: Refusal) -> Display
 // The two doubles of R's four octets and of E.
 fn shown(c: Scale) -> Display
     requires { ⌜ (shownLeast ≤ℤ c .e .value) × (c .e .value ≤ℤ shownMost) ⌝ }
-    ensures { λ d. ⌜ d ≡ record { refusal = theRefusal 0; reference = shownReference (c .r); step = shownStep (c .e .value) } ⌝ }
+    ensures { λ d. ⌜ d ≡
+        record { refusal = theRefusal 0; reference = shownReference (c .r); step = shownStep (c .e .value) } ⌝ }
 {
     let r = c.r;
     let reference = ref_bits(
@@ -77,7 +80,7 @@ fn shown(c: Scale) -> Display
 
 // What a message shows.
 pub fn display(s: &[u8], number: u16, store: &[u8]) -> Display
-    ensures { λ r. ⌜ r ≡ displayOf (now (s .entry)) (record { number = number; octets = now (store .entry) }) ⌝ }
+    ensures { λ r. ⌜ r ≡ displayOf (now (s .entry)) (lentAs number (now (store .entry))) ⌝ }
 {
     let h = header(s, number, store);
     if h.refusal.number != 0 {

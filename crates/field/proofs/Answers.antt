@@ -1,4 +1,5 @@
--- What reading answers: refused by the message's own rows, by 14, or both lists filled; from the header and one more row.
+-- What reading answers: refused by the message's own rows, by 14, or both lists filled; from the header and one more
+-- row.
 use mathlib.Core.Path.{_≡_, refl, sym, ap, _∙_, subst}
 use mathlib.Core.Bool.{Bool, true, false, _||_, cond}
 use mathlib.Core.List.{List, _++_}
@@ -17,7 +18,9 @@ use Rattle.rules.specs.Places.{after, sizeBad}
 use Rattle.rules.specs.Bitmap.{Lent, inForce, presentBy, bitmapOctets, marksLong}
 use Rattle.rules.specs.Points.{scattered}
 use Rattle.rules.specs.Values.{packingFaults, valuesAt}
-use Rattle.rules.specs.Reading.{parsedOf, foundBy, foundIn, refusedBy, ownRefusal, answerBy, headerOf, inForceIn, pointsIn, presentIn, presentCount, packingIn, valuesIn, marksIn, readTable, readRefusal, readOf, valuesAfter, marksAfter}
+use Rattle.rules.specs.Reading.{parsedOf, foundBy, foundIn, refusedBy, ownRefusal, answerBy, headerOf, inForceIn}
+use Rattle.rules.specs.Reading.{pointsIn, presentIn, presentCount, packingIn, valuesIn, marksIn, readTable, readRefusal}
+use Rattle.rules.specs.Reading.{readOf, valuesAfter, marksAfter}
 use Rattle.bits.proofs.Tests.{or-false}
 use Rattle.laws.proofs.Rows.{none-of, inside}
 use Rattle.laws.proofs.Judged.{own-zero, judged}
@@ -37,15 +40,24 @@ module _ (s : List ℕ) (lent : Lent) (v w : List ℕ) where
   abbrev short : Bool
   short = ltb (length v) (pointsIn s) || ltb (length w) (marksLong (pointsIn s))
 
-  refusal-by : (t : Bool) → t ≡ short → readRefusal s lent v w ≡ cond (accepted (ownRefusal s lent)) (cond t (refusal 14) (refusal 0)) (ownRefusal s lent)
+  refusal-by : (t : Bool) → t ≡ short
+      → readRefusal s lent v w
+      ≡ cond (accepted (ownRefusal s lent)) (cond t (refusal 14) (refusal 0)) (ownRefusal s lent)
   unfolding readRefusal readTable
-  refusal-by t e = one-more s lent 14 short ∙ ap (λ (x : Bool). cond (accepted (ownRefusal s lent)) (cond x (refusal 14) (refusal 0)) (ownRefusal s lent)) (sym e)
+  refusal-by t e =
+      one-more s lent 14 short
+      ∙ ap (λ (x : Bool). cond (accepted (ownRefusal s lent)) (cond x (refusal 14) (refusal 0)) (ownRefusal s lent))
+      (sym e)
 
   unchanged : (r : Refusal) → readRefusal s lent v w ≡ r → accepted r ≡ false → Answered (refusedBy r) v w
   unfolding readOf answerBy valuesAfter marksAfter filled
   unchanged r e n = (
     sym (ap (λ (x : Refusal). answerBy x s lent) e ∙ rw n),
-    (sym (ap (λ (x : Refusal). filled x (valuesIn s lent) v) e ∙ rw n), sym (ap (λ (x : Refusal). filled x (marksIn s lent) w) e ∙ rw n)),
+    (
+      sym (ap (λ (x : Refusal). filled x (valuesIn s lent) v) e ∙ rw n),
+      sym
+          (ap (λ (x : Refusal). filled x (marksIn s lent) w) e ∙ rw n),
+    ),
   )
 
   module _ (h : Header) (e : h ≡ headerOf s lent) where
@@ -71,10 +83,12 @@ module _ (s : List ℕ) (lent : Lent) (v w : List ℕ) where
       tested-is : (k : ℕ) → k ≡ marksLong (h .points) → tested k ≡ short
       tested-is k l = ap tested l ∙ ap (λ (x : ℕ). ltb (length v) x || ltb (length w) (marksLong x)) points
 
-      refusal-is : (k : ℕ) → k ≡ marksLong (h .points) → (t : Bool) → tested k ≡ t → readRefusal s lent v w ≡ cond t (refusal 14) (refusal 0)
+      refusal-is : (k : ℕ) → k ≡ marksLong (h .points) → (t : Bool) → tested k ≡ t
+          → readRefusal s lent v w ≡ cond t (refusal 14) (refusal 0)
       refusal-is k l t q = refusal-by t (sym q ∙ tested-is k l) ∙ rw (S.taken s lent h e z)
 
-      pub too-short : (k : ℕ) → k ≡ marksLong (h .points) → tested k ≡ true → (f : Refusal) → f ≡ refusal 14 → (r : Header) → r ≡ refusedBy f → Answered r v w
+      pub too-short : (k : ℕ) → k ≡ marksLong (h .points) → tested k ≡ true → (f : Refusal) → f ≡ refusal 14
+          → (r : Header) → r ≡ refusedBy f → Answered r v w
       too-short k l q f g r d = let a = unchanged (refusal 14) (refusal-is k l true q) refl in (d ∙ ap refusedBy g ∙ a .0, a .1)
 
       -- what filling asks
@@ -82,21 +96,30 @@ module _ (s : List ℕ) (lent : Lent) (v w : List ℕ) where
       unfolding packingFaults
       narrow =
           subst (λ (x : Packing). x .bits ≤ bitsMost) (sym (S.packing-of s lent h e z))
-          (ltb-false bitsMost (packingIn s .bits) (none-of (packingFaults (packingIn s)) (judged s lent took .packing) .1 .0))
+          (ltb-false bitsMost (packingIn s .bits)
+          (none-of (packingFaults (packingIn s)) (judged s lent took .packing) .1 .0))
 
-      pub counted : h .present ≡ count (presentBy (h .bitmap) (bitmapOctets s (lent .octets) (inForce (h .bitmap) (h .places .bms) (h .points)))) 0 (h .points)
+      pub counted : h .present
+          ≡ count (presentBy (h .bitmap)
+          (bitmapOctets s (lent .octets) (inForce (h .bitmap) (h .places .bms) (h .points)))) 0 (h .points)
       unfolding presentCount presentIn inForceIn foundIn foundBy parsedOf
       counted =
           S.present-of s lent h e z
-          ∙ sym (ap {B = ℕ} (λ (q : Header). count (presentBy (q .bitmap) (bitmapOctets s (lent .octets) (inForce (q .bitmap) (q .places .bms) (q .points)))) 0 (q .points)) (S.said s lent h e z))
+          ∙ sym (ap {B = ℕ}
+          (λ (q : Header). count
+          (presentBy (q .bitmap) (bitmapOctets s (lent .octets) (inForce (q .bitmap) (q .places .bms) (q .points)))) 0
+          (q .points)) (S.said s lent h e z))
 
-      pub lies : after (inForce (h .bitmap) (h .places .bms) (h .points) .part) ≤ length (cond (inForce (h .bitmap) (h .places .bms) (h .points) .stored) (lent .octets) s)
+      pub lies : after (inForce (h .bitmap) (h .places .bms) (h .points) .part) ≤ length
+          (cond (inForce (h .bitmap) (h .places .bms) (h .points) .stored) (lent .octets) s)
       unfolding inForceIn foundIn foundBy parsedOf
       lies =
-          subst (λ (q : Header). after (inForce (q .bitmap) (q .places .bms) (q .points) .part) ≤ length (cond (inForce (q .bitmap) (q .places .bms) (q .points) .stored) (lent .octets) s))
+          subst (λ (q : Header). after (inForce (q .bitmap) (q .places .bms) (q .points) .part) ≤ length
+          (cond (inForce (q .bitmap) (q .places .bms) (q .points) .stored) (lent .octets) s))
           (sym (S.said s lent h e z)) (bitmap-inside s lent took)
 
-      pub room : (k : ℕ) → k ≡ marksLong (h .points) → tested k ≡ false → (h .points ≤ length v) × (marksLong (h .points) ≤ length w)
+      pub room : (k : ℕ) → k ≡ marksLong (h .points) → tested k ≡ false
+          → (h .points ≤ length v) × (marksLong (h .points) ≤ length w)
       room k l q =
           let o = or-false (ltb (length v) (h .points)) (ltb (length w) k) q in
           (ltb-false _ _ (o .0), subst (λ (x : ℕ). x ≤ length w) l (ltb-false _ _ (o .1)))
@@ -117,22 +140,27 @@ module _ (s : List ℕ) (lent : Lent) (v w : List ℕ) where
       by q = presentBy (q .bitmap) (bitmapOctets s (lent .octets) (inForce (q .bitmap) (q .places .bms) (q .points)))
 
       abbrev valuesBy : Header → List ℕ
-      valuesBy q = scattered (by q) (runs (bitsIn 8 s) ((q .places .bds .start + bdsHead) * 8) (q .packing .bits) (q .present)) (q .points)
+      valuesBy q = scattered (by q)
+          (runs (bitsIn 8 s) ((q .places .bds .start + bdsHead) * 8) (q .packing .bits) (q .present)) (q .points)
 
       values-are : valuesBy h ++ drop (h .points) v ≡ valuesIn s lent ++ drop (length (valuesIn s lent)) v
       unfolding valuesIn presentIn inForceIn foundIn foundBy parsedOf scattered
       values-are =
           ap (λ (q : Header). valuesBy q ++ drop (q .points) v) (S.said s lent h e z)
-          ∙ ap (λ (xs : List ℕ). scattered (presentIn s lent) xs (pointsIn s) ++ drop (pointsIn s) v) (sym (data-runs s lent))
+          ∙ ap (λ (xs : List ℕ). scattered (presentIn s lent) xs (pointsIn s) ++ drop (pointsIn s) v)
+          (sym (data-runs s lent))
           ∙ ap (λ (k : ℕ). valuesIn s lent ++ drop k v) (sym (length-tab _ (pointsIn s)))
 
-      marks-are : h .points ≤ length w → markedBy (by h) (h .points) w ≡ marksIn s lent ++ drop (length (marksIn s lent)) w
+      marks-are : h .points ≤ length w
+          → markedBy (by h) (h .points) w ≡ marksIn s lent ++ drop (length (marksIn s lent)) w
       unfolding marksIn presentIn inForceIn foundIn foundBy parsedOf
       marks-are l =
-          marked-fits (by h) (h .points) w l ∙ ap (λ (q : Header). tab (by q) (q .points) ++ drop (q .points) w) (S.said s lent h e z)
+          marked-fits (by h) (h .points) w l
+          ∙ ap (λ (q : Header). tab (by q) (q .points) ++ drop (q .points) w) (S.said s lent h e z)
           ∙ ap (λ (k : ℕ). marksIn s lent ++ drop k w) (sym (length-tab _ (pointsIn s)))
 
-      pub done : (k : ℕ) → k ≡ marksLong (h .points) → tested k ≡ false → (x y : List ℕ) → x ≡ valuesBy h ++ drop (h .points) v → y ≡ markedBy (by h) (h .points) w → Answered h x y
+      pub done : (k : ℕ) → k ≡ marksLong (h .points) → tested k ≡ false → (x y : List ℕ)
+          → x ≡ valuesBy h ++ drop (h .points) v → y ≡ markedBy (by h) (h .points) w → Answered h x y
       unfolding headerOf readOf valuesAfter marksAfter filled
       done k l q x y a b =
           let r = refusal-is k l false q in (

@@ -1,4 +1,5 @@
--- Presence by each kind of bitmap is what the loops read: all ones, or bits of the message or of the store; by agreement below n.
+-- Presence by each kind of bitmap is what the loops read: all ones, or bits of the message or of the store; by
+-- agreement below n.
 use mathlib.Core.Path.{_≡_, refl, sym, ap, ap₂, _∙_, subst}
 use mathlib.Core.Bool.{cond}
 use mathlib.Core.List.{List, _++_}
@@ -9,7 +10,8 @@ use native.Mathlib.Omega.{arith}
 use lib.Dec.{eqb}
 use lib.ListN.{length, getD, take, drop, length-drop}
 use lib.Seq.{take-length}
-use Rattle.rules.specs.declared.{Part.Part, Bitmap.Bitmap, Bitmap.the-variants.Without, Bitmap.the-variants.Carried, Bitmap.the-variants.Stored}
+use Rattle.rules.specs.declared.{Part.Part, Bitmap.Bitmap, Bitmap.the-variants.Without, Bitmap.the-variants.Carried}
+use Rattle.rules.specs.declared.{Bitmap.the-variants.Stored}
 use Rattle.bits.specs.Bits.{bitsIn, count, runs, octetsFor}
 use Rattle.bits.proofs.Cut.{bits-take}
 use Rattle.bits.proofs.Fill.{tab-ext, tab-of}
@@ -28,12 +30,15 @@ module _ (f g : ℕ → ℕ) (n : ℕ) (same : (j : ℕ) → j < n → f j ≡ g
 
   scattered-same : (xs : List ℕ) → scattered f xs n ≡ scattered g xs n
   unfolding scattered valueAt
-  scattered-same xs = tab-ext (valueAt f xs) (valueAt g xs) n (λ i l. ap₂ (λ (x y : ℕ). cond (eqb x 1) (getD xs y 0) 0) (same i l) (count-same i (omega arith)))
+  scattered-same xs =
+      tab-ext (valueAt f xs) (valueAt g xs) n
+      (λ i l. ap₂ (λ (x y : ℕ). cond (eqb x 1) (getD xs y 0) 0) (same i l) (count-same i (omega arith)))
 
   pub count-by : (m : ℕ) → m ≡ count g 0 n → m ≡ count f 0 n
   count-by m e = e ∙ sym (count-same n (omega arith))
 
-  pub lists-by : (xs v w a b : List ℕ) → a ≡ scattered f xs n ++ v → b ≡ markedBy f n w → (a ≡ scattered g xs n ++ v) × (b ≡ markedBy g n w)
+  pub lists-by : (xs v w a b : List ℕ) → a ≡ scattered f xs n ++ v → b ≡ markedBy f n w
+      → (a ≡ scattered g xs n ++ v) × (b ≡ markedBy g n w)
   lists-by xs v w a b d e = (d ∙ ap (λ (x : List ℕ). x ++ v) (scattered-same xs), e ∙ marked-ext f g n w same)
 
 abbrev always : ℕ → ℕ
@@ -47,7 +52,10 @@ count-always (suc n) = add-one (count always 0 n) ∙ ap suc (count-always n)
 -- where every point is present each has its own value
 own-values : (xs : List ℕ) → xs ≡ scattered always xs (length xs)
 unfolding scattered valueAt
-own-values xs = sym (tab-of xs 0) ∙ tab-ext (λ i. getD xs i 0) (valueAt always xs) (length xs) (λ i l. ap (λ (x : ℕ). getD xs x 0) (sym (count-always i)))
+own-values xs =
+    sym (tab-of xs 0)
+    ∙ tab-ext (λ i. getD xs i 0) (valueAt always xs) (length xs)
+    (λ i l. ap (λ (x : ℕ). getD xs x 0) (sym (count-always i)))
 
 -- the octets from a place on, as a part
 abbrev rest : List ℕ → ℕ → List ℕ
@@ -78,7 +86,8 @@ module _ (s store : List ℕ) (b : Bitmap) (p : Part) (n m : ℕ)
         let xs = runs (bitsIn 8 s) at bits m in
         let l : length xs ≡ n = length-runs (bitsIn 8 s) at bits m ∙ every in
         lists-by always (by b) n agrees xs v w x y
-        (d ∙ ap (λ (k : ℕ). runs (bitsIn 8 s) at bits k ++ v) (sym every) ∙ ap (λ (z : List ℕ). z ++ v) (own-values xs ∙ ap (scattered always xs) l)) c
+        (d ∙ ap (λ (k : ℕ). runs (bitsIn 8 s) at bits k ++ v) (sym every)
+        ∙ ap (λ (z : List ℕ). z ++ v) (own-values xs ∙ ap (scattered always xs) l)) c
 
   module _ (e : b ≡ Carried) where
     abbrev a : ℕ
@@ -96,7 +105,8 @@ module _ (s store : List ℕ) (b : Bitmap) (p : Part) (n m : ℕ)
     carried-agrees = subst (λ (x : Bitmap). (j : ℕ) → j < n → bitsIn 8 (rest s a) j ≡ by x j) (sym e) plain
       where
         plain : (j : ℕ) → j < n → bitsIn 8 (rest s a) j ≡ by Carried j
-        plain j l = ap (λ (x : List ℕ). bitsIn 8 x j) (rest-is s a) ∙ sym (bits-take (octetsFor n) (drop a s) j (omega arith))
+        plain j l = ap (λ (x : List ℕ). bitsIn 8 x j) (rest-is s a)
+            ∙ sym (bits-take (octetsFor n) (drop a s) j (omega arith))
 
     pub carried-asks : (m ≡ count (bitsIn 8 (rest s a)) 0 n) × (n ≤ length (rest s a) * 8)
     carried-asks = (
@@ -104,7 +114,8 @@ module _ (s store : List ℕ) (b : Bitmap) (p : Part) (n m : ℕ)
       subst (λ (x : List ℕ). n ≤ length x * 8) (sym (rest-is s a)) (omega (arith, lies, length-drop a s)),
     )
 
-    pub carried : (xs v w x y : List ℕ) → x ≡ scattered (bitsIn 8 (rest s a)) xs n ++ v → y ≡ markedBy (bitsIn 8 (rest s a)) n w
+    pub carried : (xs v w x y : List ℕ) → x ≡ scattered (bitsIn 8 (rest s a)) xs n ++ v
+        → y ≡ markedBy (bitsIn 8 (rest s a)) n w
         → (x ≡ scattered (by b) xs n ++ v) × (y ≡ markedBy (by b) n w)
     carried xs v w x y = lists-by (bitsIn 8 (rest s a)) (by b) n carried-agrees xs v w x y
 

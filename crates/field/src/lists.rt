@@ -27,8 +27,8 @@ fn all_present(s: &[u8], at: u32, bits: u8, n: u32, values: &mut [u32], marks: &
     fill_all(n, marks);
 }
 
-// n points, m of them present by the bitmap: the present ones' values stand one after another from bit place `at` on. They are unpacked to
-// the front of the list and spread from there, so nothing else is lent.
+// n points, m of them present by the bitmap: the present ones' values stand one after another from bit place `at` on.
+// They are unpacked to the front of the list and spread from there, so nothing else is lent.
 fn some_present(
     s: &[u8],
     at: u32,
@@ -43,7 +43,9 @@ fn some_present(
     requires { ⌜ m ≡ count (bitsIn 8 (now bitmap)) 0 n ⌝ }
     requires { ⌜ n ≤ length (now bitmap) * 8 ⌝ }
     requires { ⌜ n ≤ length (now values) ⌝ }
-    ensures { λ _. ⌜ now (values .exit) ≡ scattered (bitsIn 8 (now (bitmap .entry))) (runs (bitsIn 8 (now (s .entry))) at bits m) n ++ drop n (now (values .entry)) ⌝ }
+    ensures { λ _. ⌜ now (values .exit) ≡
+        scattered (bitsIn 8 (now (bitmap .entry))) (runs (bitsIn 8 (now (s .entry))) at bits m) n
+        ++ drop n (now (values .entry)) ⌝ }
     ensures { λ _. ⌜ now (marks .exit) ≡ markedBy (bitsIn 8 (now (bitmap .entry))) n (now (marks .entry)) ⌝ }
 {
     unpack(s, at, bits, values, m);
@@ -66,10 +68,15 @@ pub(crate) fn fill_lists(
 )
     requires { ⌜ bits ≤ 24 ⌝ }
     requires { ⌜ m ≡ count (presentBy bitmap (bitmapOctets (now s) (now store) (inForce bitmap bms n))) 0 n ⌝ }
-    requires { ⌜ after (inForce bitmap bms n .part) ≤ length (cond (inForce bitmap bms n .stored) (now store) (now s)) ⌝ }
+    requires { ⌜ after (inForce bitmap bms n .part) ≤ length
+        (cond (inForce bitmap bms n .stored) (now store) (now s)) ⌝ }
     requires { ⌜ n ≤ length (now values) ⌝ }
-    ensures { λ _. ⌜ now (values .exit) ≡ scattered (presentBy bitmap (bitmapOctets (now (s .entry)) (now (store .entry)) (inForce bitmap bms n))) (runs (bitsIn 8 (now (s .entry))) at bits m) n ++ drop n (now (values .entry)) ⌝ }
-    ensures { λ _. ⌜ now (marks .exit) ≡ markedBy (presentBy bitmap (bitmapOctets (now (s .entry)) (now (store .entry)) (inForce bitmap bms n))) n (now (marks .entry)) ⌝ }
+    ensures { λ _. ⌜ now (values .exit) ≡
+        scattered (presentBy bitmap (bitmapOctets (now (s .entry)) (now (store .entry)) (inForce bitmap bms n)))
+        (runs (bitsIn 8 (now (s .entry))) at bits m) n ++ drop n (now (values .entry)) ⌝ }
+    ensures { λ _. ⌜ now (marks .exit) ≡
+        markedBy (presentBy bitmap (bitmapOctets (now (s .entry)) (now (store .entry)) (inForce bitmap bms n))) n
+        (now (marks .entry)) ⌝ }
 {
     let a = bms.start as usize + 6;
     match bitmap {

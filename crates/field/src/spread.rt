@@ -43,7 +43,9 @@ fn spread_octet(bitmap: &[u8], values: &mut [u32], n: usize, g: usize, c: usize)
     requires { ⌜ g < length (now bitmap) ⌝ }
     requires { ⌜ g * 8 + 8 ≤ n ⌝ }
     requires { ⌜ n ≤ length (now values) ⌝ }
-    ensures { λ r. ⌜ (r ≡ count (bitsIn 8 (now (bitmap .entry))) 0 (g * 8)) × ((v : List ℕ) → Down (bitsIn 8 (now (bitmap .entry))) n v (now (values .entry)) (g * 8 + 8) → Down (bitsIn 8 (now (bitmap .entry))) n v (now (values .exit)) (g * 8)) ⌝ }
+    ensures { λ r. ⌜ (r ≡ count (bitsIn 8 (now (bitmap .entry))) 0 (g * 8))
+        × ((v : List ℕ) → Down (bitsIn 8 (now (bitmap .entry))) n v (now (values .entry)) (g * 8 + 8)
+        → Down (bitsIn 8 (now (bitmap .entry))) n v (now (values .exit)) (g * 8)) ⌝ }
 {
     let b = bitmap[g];
     let mut j: usize = 8;
@@ -67,12 +69,14 @@ fn spread_octet(bitmap: &[u8], values: &mut [u32], n: usize, g: usize, c: usize)
     d
 }
 
-// The first m values are those at the present ones of n points, in order. Each goes to its point, the last first, and absent points become 0.
+// The first m values are those at the present ones of n points, in order. Each goes to its point, the last first, and
+// absent points become 0.
 pub(crate) fn spread(bitmap: &[u8], values: &mut [u32], n: usize, m: usize)
     requires { ⌜ m ≡ count (bitsIn 8 (now bitmap)) 0 n ⌝ }
     requires { ⌜ n ≤ length (now bitmap) * 8 ⌝ }
     requires { ⌜ n ≤ length (now values) ⌝ }
-    ensures { λ _. ⌜ now (values .exit) ≡ tab (valueAt (bitsIn 8 (now (bitmap .entry))) (now (values .entry))) n ++ drop n (now (values .entry)) ⌝ }
+    ensures { λ _. ⌜ now (values .exit) ≡
+        tab (valueAt (bitsIn 8 (now (bitmap .entry))) (now (values .entry))) n ++ drop n (now (values .entry)) ⌝ }
 {
     let mut i = n;
     let mut c = m;

@@ -84,8 +84,11 @@ module _ (c room at marked : ℕ) where
 
   pub fits-said : gatherFits c room at marked ≡ true → (c ≤ room) × (at + c ≤ marked)
   unfolding gatherFits
-  fits-said h =
-      (leb-true c room (and-left (leb c room) (leb (at + c) marked) h), leb-true (at + c) marked (and-right (leb c room) (leb (at + c) marked) h))
+  fits-said h = (
+    leb-true c room (and-left (leb c room) (leb (at + c) marked) h),
+    leb-true (at + c) marked
+        (and-right (leb c room) (leb (at + c) marked) h),
+  )
 
   pub fits-so : c ≤ room → at + c ≤ marked → gatherFits c room at marked ≡ true
   unfolding gatherFits

@@ -1,4 +1,5 @@
--- Values at present points gathered into a list: each is stored at the place reached, and the place moves on where its point is present.
+-- Values at present points gathered into a list: each is stored at the place reached, and the place moves on where its
+-- point is present.
 use Prim.Native.Nat.{ℕ, zero, suc, _+_}
 use mathlib.Core.Bool.{Bool, cond, _&&_}
 use mathlib.Core.List.{List, [], _∷_, _++_}

@@ -8,7 +8,7 @@ use Rattle.rules.specs.Bitmap.{Lent}
 use Rattle.rules.specs.Writing.{writeOf, outputAfter, lengthFor}
 use Rattle.rules.specs.Checking.{checkOf}
 use Rattle.rules.specs.Packing.{packOf, packedAfter}
-use Rattle.sections.specs.Given.{parts}
+use Rattle.framing.specs.Given.{parts}
 use Rattle.records.specs.declared.{WrittenRecord.WrittenRecord, CheckRecord.CheckRecord}
 use Rattle.records.specs.declared.forms.{FormRecord.FormRecord}
 use Rattle.records.specs.Forms.{formBy, scaleBy}

@@ -1,16 +1,19 @@
-// The codec for C: each function is one call below, with its answer as a record of plain numbers. All total: no number that C can pass is without a
-// meaning, and all buffers are lent by the caller. include/grib1.h declares the records and functions for C.
+// The codec for C: each function is one call below, with its answer as a record of plain numbers. All total: no number
+// that C can pass is without a meaning, and all buffers are lent by the caller. include/grib1.h declares the records
+// and functions for C.
 ghost use mathlib.Core.Path.{_≡_};
 ghost use Rattle.rules.specs.Chart.{charted, pointed};
 ghost use Rattle.rules.specs.Reading.{headerOf, readOf, valuesAfter, marksAfter, sectionOf, bitmapOf, numberingOf};
 ghost use Rattle.rules.specs.Display.{displayOf};
 ghost use Rattle.rules.specs.Writing.{writeOf, outputAfter, lengthFor};
-ghost use Rattle.rules.specs.Checking.{checkOf};
+ghost use Rattle.rules.specs.Checking.{checkOf, sourceAs};
 ghost use Rattle.rules.specs.Packing.{packOf, packedAfter};
-ghost use Rattle.sections.specs.Given.{parts as theParts};
+ghost use Rattle.framing.specs.Given.{parts as theParts};
 ghost use Rattle.records.specs.Forms.{gridBack, formBy, scaleBy};
 ghost use Rattle.point_records.specs.Records.{forceRecord, dataRecord};
-ghost use Rattle.records.specs.Records.{partRecord, headerRecord, placeRecord, pointRecord, displayRecord, writtenRecord, checkRecord};
+ghost use Rattle.records.specs.Records.{partRecord, headerRecord, placeRecord, pointRecord, displayRecord};
+ghost use Rattle.records.specs.Records.{writtenRecord, checkRecord};
+ghost use Rattle.rules.specs.Bitmap.{lentAs};
 use point_records::DataRecord;
 use point_records::data_record;
 use point_records::force_record;
@@ -39,7 +42,7 @@ use rules::Spot;
 // The header of a message, with the stored bitmap of a number lent.
 #[no_mangle]
 pub extern "C" fn grib1_header(message: &[u8], number: u16, store: &[u8]) -> HeaderRecord
-    ensures { λ r. ⌜ r ≡ headerRecord (headerOf (now (message .entry)) (record { number = number; octets = now (store .entry) })) ⌝ }
+    ensures { λ r. ⌜ r ≡ headerRecord (headerOf (now (message .entry)) (lentAs number (now (store .entry)))) ⌝ }
 {
     header_record(message::header(message, number, store))
 }
@@ -53,9 +56,16 @@ pub extern "C" fn grib1_read(
     values: &mut [u32],
     marks: &mut [u8],
 ) -> HeaderRecord
-    ensures { λ r. ⌜ r ≡ headerRecord (readOf (now (message .entry)) (record { number = number; octets = now (store .entry) }) (now (values .entry)) (now (marks .entry))) ⌝ }
-    ensures { λ _. ⌜ now (values .exit) ≡ valuesAfter (now (message .entry)) (record { number = number; octets = now (store .entry) }) (now (values .entry)) (now (marks .entry)) ⌝ }
-    ensures { λ _. ⌜ now (marks .exit) ≡ marksAfter (now (message .entry)) (record { number = number; octets = now (store .entry) }) (now (values .entry)) (now (marks .entry)) ⌝ }
+    ensures { λ r. ⌜ r ≡
+        headerRecord
+        (readOf (now (message .entry)) (lentAs number (now (store .entry))) (now (values .entry))
+        (now (marks .entry))) ⌝ }
+    ensures { λ _. ⌜ now (values .exit) ≡
+        valuesAfter (now (message .entry)) (lentAs number (now (store .entry))) (now (values .entry))
+        (now (marks .entry)) ⌝ }
+    ensures { λ _. ⌜ now (marks .exit) ≡
+        marksAfter (now (message .entry)) (lentAs number (now (store .entry))) (now (values .entry))
+        (now (marks .entry)) ⌝ }
 {
     header_record(field::read(message, number, store, values, marks))
 }
@@ -68,23 +78,23 @@ pub extern "C" fn grib1_section(
     store: &[u8],
     section: u32,
 ) -> PartRecord
-    ensures { λ r. ⌜ r ≡ partRecord (sectionOf (now (message .entry)) (record { number = number; octets = now (store .entry) }) section) ⌝ }
+    ensures { λ r. ⌜ r ≡ partRecord (sectionOf (now (message .entry)) (lentAs number (now (store .entry))) section) ⌝ }
 {
-    part_record(parts::section_part(message, number, store, section))
+    part_record(handed_back::section_part(message, number, store, section))
 }
 
 // Which part of the message or of the lent bitmap the bitmap in force is.
 #[no_mangle]
 pub extern "C" fn grib1_bitmap(message: &[u8], number: u16, store: &[u8]) -> PartRecord
-    ensures { λ r. ⌜ r ≡ forceRecord (bitmapOf (now (message .entry)) (record { number = number; octets = now (store .entry) })) ⌝ }
+    ensures { λ r. ⌜ r ≡ forceRecord (bitmapOf (now (message .entry)) (lentAs number (now (store .entry)))) ⌝ }
 {
-    force_record(parts::force_part(message, number, store))
+    force_record(handed_back::force_part(message, number, store))
 }
 
 // R and 2^E as doubles.
 #[no_mangle]
 pub extern "C" fn grib1_display(message: &[u8], number: u16, store: &[u8]) -> DisplayRecord
-    ensures { λ r. ⌜ r ≡ displayRecord (displayOf (now (message .entry)) (record { number = number; octets = now (store .entry) })) ⌝ }
+    ensures { λ r. ⌜ r ≡ displayRecord (displayOf (now (message .entry)) (lentAs number (now (store .entry)))) ⌝ }
 {
     display_record(display::display(message, number, store))
 }
@@ -119,9 +129,9 @@ pub extern "C" fn grib1_data_number(
     store: &[u8],
     point: u32,
 ) -> DataRecord
-    ensures { λ r. ⌜ r ≡ dataRecord (numberingOf (now (message .entry)) (record { number = number; octets = now (store .entry) }) point) ⌝ }
+    ensures { λ r. ⌜ r ≡ dataRecord (numberingOf (now (message .entry)) (lentAs number (now (store .entry))) point) ⌝ }
 {
-    data_record(points::data_number(message, number, store, GridPoint(point)))
+    data_record(data_numbers::data_number(message, number, store, GridPoint(point)))
 }
 
 // How many octets the message of a PDS, a form and marks takes, whatever its E, R and values.
@@ -133,9 +143,11 @@ pub extern "C" fn grib1_length(
     store: &[u8],
     marks: &[u8],
 ) -> WrittenRecord
-    ensures { λ r. ⌜ r ≡ writtenRecord (lengthFor (now (pds .entry)) (formBy form) (record { number = number; octets = now (store .entry) }) (now (marks .entry))) ⌝ }
+    ensures { λ r. ⌜ r ≡
+        writtenRecord
+        (lengthFor (now (pds .entry)) (formBy form) (lentAs number (now (store .entry))) (now (marks .entry))) ⌝ }
 {
-    written_record(sections::message_length(pds, form_by(form), number, store, marks))
+    written_record(framing::message_length(pds, form_by(form), number, store, marks))
 }
 
 // Writes the message of a PDS, a form, E and R, and lists of values and marks.
@@ -151,8 +163,15 @@ pub extern "C" fn grib1_write(
     marks: &[u8],
     out: &mut [u8],
 ) -> WrittenRecord
-    ensures { λ w. ⌜ w ≡ writtenRecord (writeOf (theParts (now (pds .entry)) (formBy form) (scaleBy e r) number (now (store .entry)) (now (values .entry)) (now (marks .entry))) (now (out .entry))) ⌝ }
-    ensures { λ _. ⌜ now (out .exit) ≡ outputAfter (theParts (now (pds .entry)) (formBy form) (scaleBy e r) number (now (store .entry)) (now (values .entry)) (now (marks .entry))) (now (out .entry)) ⌝ }
+    ensures { λ w. ⌜ w ≡
+        writtenRecord
+        (writeOf
+        (theParts (now (pds .entry)) (formBy form) (scaleBy e r) number (now (store .entry)) (now (values .entry))
+        (now (marks .entry))) (now (out .entry))) ⌝ }
+    ensures { λ _. ⌜ now (out .exit) ≡
+        outputAfter
+        (theParts (now (pds .entry)) (formBy form) (scaleBy e r) number (now (store .entry)) (now (values .entry))
+        (now (marks .entry))) (now (out .entry)) ⌝ }
 {
     let scale = scale_by(e, r);
     written_record(writer::write(pds, form_by(form), scale, number, store, values, marks, out))
@@ -168,7 +187,10 @@ pub extern "C" fn grib1_check(
     marks: &[u8],
     d: i32,
 ) -> CheckRecord
-    ensures { λ r. ⌜ r ≡ checkRecord (checkOf (now (message .entry)) (record { number = number; octets = now (store .entry) }) (record { numbers = now (numbers .entry); marks = now (marks .entry); d = d })) ⌝ }
+    ensures { λ r. ⌜ r ≡
+        checkRecord
+        (checkOf (now (message .entry)) (lentAs number (now (store .entry)))
+        (sourceAs (now (numbers .entry)) (now (marks .entry)) d)) ⌝ }
 {
     check_record(checker::check(message, number, store, numbers, marks, d))
 }
@@ -185,8 +207,13 @@ pub extern "C" fn grib1_pack(
     d: i32,
     out: &mut [u8],
 ) -> WrittenRecord
-    ensures { λ r. ⌜ r ≡ writtenRecord (packOf (now (pds .entry)) (formBy form) (record { number = number; octets = now (store .entry) }) (record { numbers = now (numbers .entry); marks = now (marks .entry); d = d }) (now (out .entry))) ⌝ }
-    ensures { λ _. ⌜ now (out .exit) ≡ packedAfter (now (pds .entry)) (formBy form) (record { number = number; octets = now (store .entry) }) (record { numbers = now (numbers .entry); marks = now (marks .entry); d = d }) (now (out .entry)) ⌝ }
+    ensures { λ r. ⌜ r ≡
+        writtenRecord
+        (packOf (now (pds .entry)) (formBy form) (lentAs number (now (store .entry)))
+        (sourceAs (now (numbers .entry)) (now (marks .entry)) d) (now (out .entry))) ⌝ }
+    ensures { λ _. ⌜ now (out .exit) ≡
+        packedAfter (now (pds .entry)) (formBy form) (lentAs number (now (store .entry)))
+        (sourceAs (now (numbers .entry)) (now (marks .entry)) d) (now (out .entry)) ⌝ }
 {
     written_record(packer::pack(pds, form_by(form), number, store, numbers, marks, d, out))
 }

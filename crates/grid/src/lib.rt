@@ -3,10 +3,11 @@ ghost use mathlib.Core.Path.{_≡_};
 ghost use mathlib.Core.Bool.{cond, _||_};
 ghost use Rattle.rules.specs.Table.{anyOf};
 ghost use Rattle.rules.specs.Bounds.{sideMost, pointsMost, latitudeMost, longitudeMost};
-ghost use Rattle.rules.specs.Numbers.{outside, beyond};
+ghost use Rattle.rules.specs.Numbers.{notWithin, beyond};
 ghost use Rattle.rules.specs.Chart.{pointsOn};
 ghost use Rattle.rules.specs.declared.Found.the-variants.{Nothing, Given};
-ghost use Rattle.rules.specs.Grid.{gridAt, gridFrom, gridMissing, theGrid, noGrid, gdsFaults, pointsOf, scanBad, gridFaults};
+ghost use Rattle.rules.specs.Grid.{gridAt, gridFrom, gridMissing, theGrid, noGrid, gdsFaults, pointsOf, scanBad};
+ghost use Rattle.rules.specs.Grid.{gridFaults};
 use catalogue::catalogued;
 use chart::points_on;
 use choices::choose;
@@ -82,7 +83,7 @@ pub fn grid_from(given: Found, s: &[u8], p: usize) -> Found
     }
 }
 
-// Refusal 7.
+// Refusal 7: no GDS, and no grid of that number in the catalogue.
 pub fn grid_missing(f: Found) -> bool
     ensures { λ r. ⌜ r ≡ gridMissing f ⌝ }
 {
@@ -125,7 +126,7 @@ pub fn the_grid(f: Found) -> Grid
     }
 }
 
-// Refusal 8 of the GDS at p.
+// Refusal 8 of the GDS at p: its length, or one of octets 4 to 6.
 pub fn gds_bad(s: &[u8], p: Part) -> bool
     ensures { λ r. ⌜ r ≡ anyOf (gdsFaults (now (s .entry)) p) ⌝ }
 {
@@ -168,7 +169,8 @@ fn scan_bad(nj: u16, scan: u8, la1: Signed, la2: Signed) -> bool
 
 // Refusal 9, of what points and places ask.
 fn shape_bad(g: Shape) -> bool
-    ensures { λ r. ⌜ r ≡ (outside 1 sideMost (g .ni) || outside 1 sideMost (g .nj)) || outside 1 pointsMost (pointsOn g) ⌝ }
+    ensures { λ r. ⌜ r ≡
+        (notWithin 1 sideMost (g .ni) || notWithin 1 sideMost (g .nj)) || notWithin 1 pointsMost (pointsOn g) ⌝ }
 {
     let n = points_on(g);
     ((g.ni < 1) | (SIDE_MOST < g.ni))

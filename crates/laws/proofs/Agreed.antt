@@ -29,7 +29,8 @@ agrees s lent f e =
     let d = or-false (ltZ (decimalIn s .value) (f .d)) (ltZ (f .d) (decimalIn s .value)) (h .1 .1 .0) in
     record {
       points = is-eq _ _ (h .0);
-      marks = λ i l. is-eq _ _ (none-below (λ i. not (eqb (presentIn s lent i) (presentOf f i))) (pointsIn s) (h .1 .0) i l);
+      marks = λ i l. is-eq _ _
+          (none-below (λ i. not (eqb (presentIn s lent i) (presentOf f i))) (pointsIn s) (h .1 .0) i l);
       d = ltZ-antisym (decimalIn s .value) (f .d) (d .0) (d .1);
     }
 

@@ -8,7 +8,8 @@ use borrow.Author.Tests.{ltb-false, eqb-true}
 use lib.Dec.{eqb}
 use lib.ListN.{length}
 use Rattle.bits.specs.Bits.{octetsFor}
-use Rattle.rules.specs.declared.{Part.Part, Bitmap.Bitmap, Bitmap.the-variants.Without, Bitmap.the-variants.Carried, Bitmap.the-variants.Stored}
+use Rattle.rules.specs.declared.{Part.Part, Bitmap.Bitmap, Bitmap.the-variants.Without, Bitmap.the-variants.Carried}
+use Rattle.rules.specs.declared.{Bitmap.the-variants.Stored}
 use Rattle.rules.specs.Bounds.{bmsLeast}
 use Rattle.rules.specs.Numbers.{octet, number}
 use Rattle.rules.specs.Table.{anyOf}
@@ -26,12 +27,15 @@ NumberIs s k Without = Unit {0}
 NumberIs s k Carried = number s k 5 6 ≡ 0
 NumberIs s k (Stored j) = number s k 5 6 ≡ j
 
-pub map-says : (s : List ℕ) (there : Bool) (k : ℕ) → (there ≡ bitmapGiven (bitmapAt s there k)) × NumberIs s k (bitmapAt s there k)
+pub map-says : (s : List ℕ) (there : Bool) (k : ℕ)
+    → (there ≡ bitmapGiven (bitmapAt s there k)) × NumberIs s k (bitmapAt s there k)
 unfolding bitmapAt
 map-says s false k = (refl, tt)
 map-says s true k = go (eqb (number s k 5 6) 0) refl
   where
-    go : (t : Bool) → eqb (number s k 5 6) 0 ≡ t → (true ≡ bitmapGiven (cond t Carried (Stored (number s k 5 6)))) × NumberIs s k (cond t Carried (Stored (number s k 5 6)))
+    go : (t : Bool) → eqb (number s k 5 6) 0 ≡ t
+        → (true ≡ bitmapGiven (cond t Carried (Stored (number s k 5 6))))
+        × NumberIs s k (cond t Carried (Stored (number s k 5 6)))
     go true e = (refl, eqb-true _ _ e)
     go false e = (refl, refl)
 
@@ -40,17 +44,24 @@ pub kind : (s : List ℕ) → hasBitmap s pdsStart ≡ bitmapGiven (bitmapIn s)
 unfolding bitmapIn
 kind s = map-says s (hasBitmap s pdsStart) (placesOf s .bms .start) .0
 
-bounded : (m : Bitmap) (s : List ℕ) (lent : Lent) (p : Part) (n : ℕ) → (bitmapGiven m ≡ true → bmsLeast ≤ p .len) → p .start + p .len ≤ length s → anyOf (bitmapFaults s lent p m n) ≡ false
+bounded : (m : Bitmap) (s : List ℕ) (lent : Lent) (p : Part) (n : ℕ) → (bitmapGiven m ≡ true → bmsLeast ≤ p .len)
+    → p .start + p .len ≤ length s → anyOf (bitmapFaults s lent p m n) ≡ false
     → after (inForce m p n .part) ≤ length (cond (inForce m p n .stored) (lent .octets) s)
 unfolding bitmapFaults lentFaults inForce noBitmap
 bounded Without s lent p n q l e = omega arith
 bounded Carried s lent p n q l e =
     let h = is-eq (8 * (p .len - 6)) (n + octet s (p .start) 4) (none-of (bitmapFaults s lent p Carried n) e .1 .0) in
     omega (arith, q refl)
-bounded (Stored j) s lent p n q l e = omega (arith, ltb-false (length (lent .octets)) (octetsFor n) (none-of (bitmapFaults s lent p (Stored j) n) e .1 .1 .1 .1 .0))
+bounded (Stored j) s lent p n q l e =
+    omega (
+      arith,
+      ltb-false (length (lent .octets)) (octetsFor n)
+          (none-of (bitmapFaults s lent p (Stored j) n) e .1 .1 .1 .1 .0),
+    )
 
 pub bitmap-inside : BitmapInside
 unfolding inForceIn
 bitmap-inside s lent t =
     let at = sections s lent t in
-    bounded (bitmapIn s) s lent (placesOf s .bms) (pointsIn s) (λ q. at .bms .least (kind s ∙ q)) (omega (arith, at .at-bds, at .end)) (judged s lent t .bitmap)
+    bounded (bitmapIn s) s lent (placesOf s .bms) (pointsIn s) (λ q. at .bms .least (kind s ∙ q))
+    (omega (arith, at .at-bds, at .end)) (judged s lent t .bitmap)

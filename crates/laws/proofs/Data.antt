@@ -1,4 +1,5 @@
--- The m values of a message as simple packing has them: one after another, N bits each; by the definition, and row 12 for the bound.
+-- The m values of a message as simple packing has them: one after another, N bits each; by the definition, and row 12
+-- for the bound.
 use Prim.Native.Nat.{ℕ, _+_, _-_, _*_, _%_, _≤_, _<_}
 use mathlib.Core.Path.{_≡_, refl, _∙_, ap}
 use mathlib.Core.List.{List}
@@ -46,4 +47,9 @@ module _ (s : List ℕ) (lent : Lent) where
   unfolding lengthBad
   data-inside t k l =
       let b = placesOf s .bds in
-      omega (arith, next-le k m bits l, is-eq (8 * (b .len - bdsHead)) (m * bits + octet s (b .start) 4 % 16) (judged s lent t .length))
+      omega (
+        arith,
+        next-le k m bits l,
+        is-eq (8 * (b .len - bdsHead)) (m * bits + octet s (b .start) 4 % 16)
+            (judged s lent t .length),
+      )

@@ -1,4 +1,5 @@
--- The bits of an octet as the comparisons that code makes: by arithmetic, and of the four flags by trying each half of an octet.
+-- The bits of an octet as the comparisons that code makes: by arithmetic, and of the four flags by trying each half of
+-- an octet.
 use Prim.Native.Nat.{ℕ, _*_, _/_, _%_, _≤_, _<_}
 use mathlib.Core.Bool.{Bool, true, false, not, _||_, cond}
 use mathlib.Core.Path.{_≡_, refl, sym, _∙_, ap, ap₂}
@@ -58,11 +59,14 @@ flags-bad flags = go (leb 16 flags) refl
     go : (t : Bool) → leb 16 flags ≡ t → not (eqb flags 0 || eqb flags 2) ≡ flagsBad flags
     go true e =
         let l = leb-true 16 flags e in
-        ap₂ (λ (a b : Bool). not (a || b)) (ne-eqb flags 0 (λ z. omega (arith, l, z))) (ne-eqb flags 2 (λ z. omega (arith, l, z)))
+        ap₂ (λ (a b : Bool). not (a || b)) (ne-eqb flags 0 (λ z. omega (arith, l, z)))
+        (ne-eqb flags 2 (λ z. omega (arith, l, z)))
         ∙ sym (ap (λ (t : Bool). t || bit 1 (flags * 16) || bit 2 (flags * 16) || bit 4 (flags * 16)) e)
-    go false e = alike _ _ (none-below (λ f. apart (not (eqb f 0 || eqb f 2)) (flagsBad f)) 16 refl flags (leb-false 16 flags e))
+    go false e =
+        alike _ _ (none-below (λ f. apart (not (eqb f 0 || eqb f 2)) (flagsBad f)) 16 refl flags (leb-false 16 flags e))
 
 -- and so row 11
-pub packing-read : (p : Packing) → not (eqb (p .flags) 0 || eqb (p .flags) 2) || ltb bitsMost (p .bits) ≡ anyOf (packingFaults p)
+pub packing-read : (p : Packing)
+    → not (eqb (p .flags) 0 || eqb (p .flags) 2) || ltb bitsMost (p .bits) ≡ anyOf (packingFaults p)
 unfolding anyOf orAll packingFaults
 packing-read p = ap (λ (t : Bool). t || ltb bitsMost (p .bits)) (flags-bad (p .flags))

@@ -1,4 +1,5 @@
--- The values at present points: gathered and scattered again, and scattered and gathered again, they are the same; by induction on the points, one present or one absent at a time.
+-- The values at present points: gathered and scattered again, and scattered and gathered again, they are the same; by
+-- induction on the points, one present or one absent at a time.
 use mathlib.Core.Path.{_≡_, refl, sym, ap, ap₂, _∙_, subst}
 use Prim.Native.Nat.{ℕ, zero, suc, _+_, _^_, _≤_, _<_}
 use mathlib.Core.Bool.{Bool, true, false, cond}
@@ -38,15 +39,18 @@ module _ (f : ℕ → ℕ) (b : Bits f) (v : ℕ → ℕ) where
   gathered-out m h = rw (add-one, ne-eqb (f m) 1 h)
 
   -- what holds of no point, and goes on over a present and over an absent one
-  by-points : (P : ℕ → Type 0) → P 0 → ((m : ℕ) → f m ≡ 1 → P m → P (m + 1)) → ((m : ℕ) → (f m ≡ 1 → ⊥) → P m → P (m + 1)) → (m : ℕ) → P m
+  by-points : (P : ℕ → Type 0) → P 0 → ((m : ℕ) → f m ≡ 1 → P m → P (m + 1))
+      → ((m : ℕ) → (f m ≡ 1 → ⊥) → P m → P (m + 1)) → (m : ℕ) → P m
   by-points P z i o zero = z
   by-points P z i o (suc m) =
-      subst P (add-one m) (elim (ℕ-discrete (f m) 1) [ yes h ↦ i m h (by-points P z i o m) | no h ↦ o m h (by-points P z i o m) ])
+      subst P (add-one m)
+      (elim (ℕ-discrete (f m) 1) [ yes h ↦ i m h (by-points P z i o m) | no h ↦ o m h (by-points P z i o m) ])
 
   pub length-gathered : (m : ℕ) → length (gathered f v m) ≡ count f 0 m
   unfolding gathered count
   length-gathered = by-points (λ m. length (gathered f v m) ≡ count f 0 m) refl
-      (λ m h e. ap length (gathered-in m h) ∙ length-append (gathered f v m) (v m ∷ []) ∙ ap (λ (x : ℕ). x + 1) e ∙ sym (count-one f m h))
+      (λ m h e. ap length (gathered-in m h) ∙ length-append (gathered f v m) (v m ∷ []) ∙ ap (λ (x : ℕ). x + 1) e
+      ∙ sym (count-one f m h))
       (λ m h e. ap length (gathered-out m h) ∙ e ∙ sym (count-none b m h))
 
   pub wide-gathered : (n : ℕ) → ((i : ℕ) → v i < 2 ^ n) → (m : ℕ) → Wide n (gathered f v m)
@@ -57,13 +61,16 @@ module _ (f : ℕ → ℕ) (b : Bits f) (v : ℕ → ℕ) where
 
   -- a present point's value stands at its data number
   getD-gathered : (i : ℕ) → f i ≡ 1 → (m : ℕ) → i < m → getD (gathered f v m) (count f 0 i) 0 ≡ v i
-  getD-gathered i t = by-points (λ m. i < m → getD (gathered f v m) (count f 0 i) 0 ≡ v i) (λ l. absurd (not-suc-le-zero l))
+  getD-gathered i t =
+      by-points (λ m. i < m → getD (gathered f v m) (count f 0 i) 0 ≡ v i) (λ l. absurd (not-suc-le-zero l))
       (λ m h e l. ap (λ (x : List ℕ). getD x (count f 0 i) 0) (gathered-in m h) ∙ ⊎-elim
       (λ p. ap (λ (x : ℕ). getD (gathered f v m ++ (v m ∷ [])) (count f 0 x) 0) p
       ∙ getD-at (gathered f v m) (v m) [] 0 (count f 0 m) (length-gathered m) ∙ ap v (sym p))
-      (λ q. List·getD-append (gathered f v m) (v m ∷ []) 0 (count f 0 i) (subst (λ (x : ℕ). count f 0 i < x) (sym (length-gathered m)) (number-lt f i m t q)) ∙ e q)
+      (λ q. List·getD-append (gathered f v m) (v m ∷ []) 0 (count f 0 i)
+      (subst (λ (x : ℕ). count f 0 i < x) (sym (length-gathered m)) (number-lt f i m t q)) ∙ e q)
       (eq-or-lt-of-le (step l)))
-      (λ m h e l. ap (λ (x : List ℕ). getD x (count f 0 i) 0) (gathered-out m h) ∙ ⊎-elim (λ p. absurd (h (ap f (sym p) ∙ t))) e (eq-or-lt-of-le (step l)))
+      (λ m h e l. ap (λ (x : List ℕ). getD x (count f 0 i) 0) (gathered-out m h)
+      ∙ ⊎-elim (λ p. absurd (h (ap f (sym p) ∙ t))) e (eq-or-lt-of-le (step l)))
     where
       step : {m : ℕ} → i < m + 1 → i ≤ m
       step h = omega arith
@@ -86,11 +93,13 @@ module _ (f : ℕ → ℕ) (xs : List ℕ) where
       go true = w (count f 0 i)
       go false = pow-pos n
 
-pub scattered-back : (g f : ℕ → ℕ) (values : List ℕ) (n : ℕ) → Bits f → length values ≡ n → ((i : ℕ) → i < n → g i ≡ f i) → ((i : ℕ) → i < n → f i ≡ 0 → valueOf values i ≡ 0)
+pub scattered-back : (g f : ℕ → ℕ) (values : List ℕ) (n : ℕ) → Bits f → length values ≡ n
+    → ((i : ℕ) → i < n → g i ≡ f i) → ((i : ℕ) → i < n → f i ≡ 0 → valueOf values i ≡ 0)
     → scattered g (gathered f (valueOf values) n) n ≡ values
 unfolding scattered
 scattered-back g f values n b e same absent =
-    tab-ext (valueAt g xs) (λ k. getD values k 0) n value-back ∙ ap (tab (λ k. getD values k 0)) (sym e) ∙ tab-of values 0
+    tab-ext (valueAt g xs) (λ k. getD values k 0) n value-back ∙ ap (tab (λ k. getD values k 0)) (sym e)
+    ∙ tab-of values 0
   where
     xs : List ℕ
     xs = gathered f (valueOf values) n
@@ -99,7 +108,9 @@ scattered-back g f values n b e same absent =
     zero-of x l h = omega arith
 
     there : (i : ℕ) → i < n → g i ≡ 1 → valueAt g xs i ≡ getD values i 0
-    there i l h = value-there g xs i h ∙ ap (λ (x : ℕ). getD xs x 0) (count-same g f n same i (omega arith)) ∙ getD-gathered f b (valueOf values) i (sym (same i l) ∙ h) n l
+    there i l h =
+        value-there g xs i h ∙ ap (λ (x : ℕ). getD xs x 0) (count-same g f n same i (omega arith))
+        ∙ getD-gathered f b (valueOf values) i (sym (same i l) ∙ h) n l
 
     away : (i : ℕ) → i < n → (g i ≡ 1 → ⊥) → valueAt g xs i ≡ getD values i 0
     away i l h = value-away g xs i h ∙ sym (absent i l (zero-of (f i) (b i) (λ t. h (same i l ∙ t))))
@@ -107,11 +118,14 @@ scattered-back g f values n b e same absent =
     value-back : (i : ℕ) → i < n → valueAt g xs i ≡ getD values i 0
     value-back i l = elim (ℕ-discrete (g i) 1) [ yes h ↦ there i l h | no h ↦ away i l h ]
 
-pub marks-back : (g : ℕ → ℕ) (marks : List ℕ) (n : ℕ) → length marks ≡ n → ((i : ℕ) → i < n → g i ≡ getD marks i 0) → tab g n ≡ marks
-marks-back g marks n e same = tab-ext g (λ k. getD marks k 0) n same ∙ ap (tab (λ k. getD marks k 0)) (sym e) ∙ tab-of marks 0
+pub marks-back : (g : ℕ → ℕ) (marks : List ℕ) (n : ℕ) → length marks ≡ n → ((i : ℕ) → i < n → g i ≡ getD marks i 0)
+    → tab g n ≡ marks
+marks-back g marks n e same =
+    tab-ext g (λ k. getD marks k 0) n same ∙ ap (tab (λ k. getD marks k 0)) (sym e) ∙ tab-of marks 0
 
 -- only the first n points are gathered
-gathered-ext : (f g v u : ℕ → ℕ) (n : ℕ) → ((i : ℕ) → i < n → f i ≡ g i) → ((i : ℕ) → i < n → v i ≡ u i) → gathered f v n ≡ gathered g u n
+gathered-ext : (f g v u : ℕ → ℕ) (n : ℕ) → ((i : ℕ) → i < n → f i ≡ g i) → ((i : ℕ) → i < n → v i ≡ u i)
+    → gathered f v n ≡ gathered g u n
 unfolding gathered
 gathered-ext f g v u zero h k = refl
 gathered-ext f g v u (suc n) h k =
@@ -123,18 +137,22 @@ gathered-ext f g v u (suc n) h k =
 module _ (f : ℕ → ℕ) (b : Bits f) (xs : List ℕ) where
   gathered-front : (m : ℕ) → count f 0 m ≤ length xs → gathered f (valueAt f xs) m ≡ take (count f 0 m) xs
   unfolding gathered count
-  gathered-front = by-points f b (valueAt f xs) (λ m. count f 0 m ≤ length xs → gathered f (valueAt f xs) m ≡ take (count f 0 m) xs)
+  gathered-front =
+      by-points f b (valueAt f xs) (λ m. count f 0 m ≤ length xs → gathered f (valueAt f xs) m ≡ take (count f 0 m) xs)
       (λ l. refl)
       (λ m h e l.
       let c : count f 0 (m + 1) ≡ suc (count f 0 m) = count-one f m h ∙ add-one (count f 0 m) in
-      gathered-in f b (valueAt f xs) m h ∙ ap₂ (λ (x : List ℕ) (y : ℕ). x ++ (y ∷ [])) (e (omega arith)) (value-there f xs m h)
+      gathered-in f b (valueAt f xs) m h
+      ∙ ap₂ (λ (x : List ℕ) (y : ℕ). x ++ (y ∷ [])) (e (omega arith)) (value-there f xs m h)
       ∙ sym (ap (λ (x : ℕ). take x xs) c ∙ take-suc xs (count f 0 m) 0 (omega arith)))
       (λ m h e l.
       let c : count f 0 (m + 1) ≡ count f 0 m = count-none b m h in
       gathered-out f b (valueAt f xs) m h ∙ e (omega arith) ∙ sym (ap (λ (x : ℕ). take x xs) c))
 
-  pub gathered-back : (n : ℕ) → length xs ≡ count f 0 n → gathered (markOf (tab f n)) (valueOf (scattered f xs n)) n ≡ xs
+  pub gathered-back : (n : ℕ) → length xs ≡ count f 0 n
+      → gathered (markOf (tab f n)) (valueOf (scattered f xs n)) n ≡ xs
   unfolding scattered
   gathered-back n e =
-      gathered-ext (markOf (tab f n)) f (valueOf (tab (valueAt f xs) n)) (valueAt f xs) n (λ i l. getD-tab f n i 0 l) (λ i l. getD-tab (valueAt f xs) n i 0 l)
+      gathered-ext (markOf (tab f n)) f (valueOf (tab (valueAt f xs) n)) (valueAt f xs) n (λ i l. getD-tab f n i 0 l)
+      (λ i l. getD-tab (valueAt f xs) n i 0 l)
       ∙ gathered-front n (omega arith) ∙ ap (λ (x : ℕ). take x xs) (sym e) ∙ take-length xs

@@ -1,4 +1,5 @@
--- The reader's rows 1 to 12 as twelve named facts, there and back, and in the groups that code judges, by the definitions: nothing else looks at its table by position.
+-- The reader's rows 1 to 12 as twelve named facts, there and back, and in the groups that code judges, by the
+-- definitions: nothing else looks at its table by position.
 use mathlib.Core.Bool.{true, false, _&&_, _||_}
 use mathlib.Core.Path.{_≡_, refl}
 use mathlib.Core.List.{List, [], _∷_}
@@ -6,19 +7,21 @@ use Prim.Native.Nat.{ℕ}
 use lib.Dec.{T, ltb}
 use lib.ListN.{length}
 use Rattle.rules.specs.Table.{row, refusal, accepted, anyOf}
-use Rattle.rules.specs.Places.{pdsStart, endStart, hasGrid, hasBitmap, placesOf, sizeBad, markBad, editionBad, totalFaults, placesFaults}
+use Rattle.rules.specs.Places.{pdsStart, endStart, hasGrid, hasBitmap, placesOf, sizeBad, gribBad, editionBad}
+use Rattle.rules.specs.Places.{totalFaults, placesFaults}
 use Rattle.rules.specs.Time.{timeFaults}
 use Rattle.rules.specs.Grid.{gridMissing, theGrid, gdsFaults, gridFaults}
 use Rattle.rules.specs.Bitmap.{Lent, bitmapFaults}
 use Rattle.rules.specs.Values.{packingFaults, lengthBad}
-use Rattle.rules.specs.Reading.{gridOf, pointsIn, bitmapIn, presentCount, packingIn, layoutRows, gridRows, dataRows, parsedOf, earlierRows, messageTable, ownRefusal, readTable, readRefusal}
+use Rattle.rules.specs.Reading.{gridOf, pointsIn, bitmapIn, presentCount, packingIn, layoutRows, gridRows, dataRows}
+use Rattle.rules.specs.Reading.{parsedOf, earlierRows, messageTable, ownRefusal, readTable, readRefusal}
 use Rattle.laws.specs.Tables.{Clear, RowsInGroups}
 use Rattle.laws.specs.Taken.{Taken}
 use Rattle.laws.proofs.Rows.{zero-of, clear, clear-parts, accepts, taken-by}
 
 pub record Judged (s : List ℕ) (lent : Lent) : Type 0 where
   pub size : sizeBad s ≡ false
-  pub mark : markBad s ≡ false
+  pub mark : gribBad s ≡ false
   pub edition : editionBad s ≡ false
   pub total : anyOf (totalFaults s) ≡ false
   pub places : anyOf (placesFaults (endStart s) (hasGrid s pdsStart) (hasBitmap s pdsStart) (placesOf s)) ≡ false
@@ -39,7 +42,8 @@ unfolding ownRefusal messageTable
 rows s lent t = clear (messageTable s lent) (tt, (tt, (tt, (tt, (tt, (tt, (tt, (tt, (tt, (tt, (tt, (tt, tt)))))))))))) t
 
 -- what of a table that goes on after row 12 is accepted is taken
-pub read-taken : (s : List ℕ) (lent : Lent) (values marks : List ℕ) → T (accepted (readRefusal s lent values marks)) → Taken s lent
+pub read-taken : (s : List ℕ) (lent : Lent) (values marks : List ℕ) → T (accepted (readRefusal s lent values marks))
+    → Taken s lent
 unfolding ownRefusal readRefusal readTable messageTable
 read-taken s lent values marks t =
     let h = clear (readTable s lent values marks) (tt, (tt, (tt, (tt, (tt, (tt, (tt, (tt, (tt, (tt, (tt, (tt, (tt, tt))))))))))))) t in
@@ -49,11 +53,15 @@ read-taken s lent values marks t =
 -- where they accept, the reply is refusal 0
 pub own-zero : (s : List ℕ) (lent : Lent) → accepted (ownRefusal s lent) ≡ true → ownRefusal s lent ≡ refusal 0
 unfolding ownRefusal messageTable
-own-zero s lent = zero-of (messageTable s lent) (tt, (tt, (tt, (tt, (tt, (tt, (tt, (tt, (tt, (tt, (tt, (tt, tt))))))))))))
+own-zero s lent =
+    zero-of (messageTable s lent) (tt, (tt, (tt, (tt, (tt, (tt, (tt, (tt, (tt, (tt, (tt, (tt, tt))))))))))))
 
-pub read-zero : (s : List ℕ) (lent : Lent) (values marks : List ℕ) → accepted (readRefusal s lent values marks) ≡ true → readRefusal s lent values marks ≡ refusal 0
+pub read-zero : (s : List ℕ) (lent : Lent) (values marks : List ℕ) → accepted (readRefusal s lent values marks) ≡ true
+    → readRefusal s lent values marks ≡ refusal 0
 unfolding readRefusal readTable messageTable
-read-zero s lent values marks = zero-of (readTable s lent values marks) (tt, (tt, (tt, (tt, (tt, (tt, (tt, (tt, (tt, (tt, (tt, (tt, (tt, tt)))))))))))))
+read-zero s lent values marks =
+    zero-of (readTable s lent values marks)
+    (tt, (tt, (tt, (tt, (tt, (tt, (tt, (tt, (tt, (tt, (tt, (tt, (tt, tt)))))))))))))
 
 pub judged : (s : List ℕ) (lent : Lent) → Taken s lent → Judged s lent
 unfolding messageTable
@@ -77,5 +85,13 @@ judged s lent t =
 
 pub unjudged : (s : List ℕ) (lent : Lent) → Judged s lent → ownRefusal s lent ≡ refusal 0
 unfolding ownRefusal messageTable
-unjudged s lent h = accepts (messageTable s lent)
-    (h .size, (h .mark, (h .edition, (h .total, (h .places, (h .time, (h .found, (h .gds, (h .grid, (h .bitmap, (h .packing, (h .length, tt))))))))))))
+unjudged s lent h = accepts (messageTable s lent) (
+  h .size,
+  (
+    h .mark,
+    (
+      h .edition,
+      (h .total, (h .places, (h .time, (h .found, (h .gds, (h .grid, (h .bitmap, (h .packing, (h .length, tt))))))))),
+    ),
+  ),
+)

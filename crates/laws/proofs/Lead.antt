@@ -1,4 +1,5 @@
--- What the count of leading zeros says of B, a number of at most 24 digits: shifted by it, the leading digit stands at weight 2^52.
+-- What the count of leading zeros says of B, a number of at most 24 digits: shifted by it, the leading digit stands at
+-- weight 2^52.
 use mathlib.Core.Path.{_≡_, refl, sym, ap, _∙_, subst}
 use Prim.Native.Nat.{ℕ, zero, suc, _+_, _-_, _*_, _%_, _^_, _≤_, _<_}
 use native.Mathlib.Nat.{lt-of-not-le, lt-irrefl, lt-of-lt-of-le, lt-of-le-of-lt, mul-le-mul-right}
@@ -34,13 +35,15 @@ lead b n h =
       sum = sum;
       least = omega arith;
       most = omega arith;
-      low = subst (λ (x : ℕ). x ≤ b * 2 ^ (21 + z)) (sym (pow-add 2 j (21 + z)) ∙ ap (λ (x : ℕ). 2 ^ x) e52) (mul-le-mul-right (2 ^ (21 + z)) (t .2));
+      low = subst (λ (x : ℕ). x ≤ b * 2 ^ (21 + z)) (sym (pow-add 2 j (21 + z)) ∙ ap (λ (x : ℕ). 2 ^ x) e52)
+          (mul-le-mul-right (2 ^ (21 + z)) (t .2));
       high = subst (λ (x : ℕ). b * 2 ^ (21 + z) < 2 ^ x) e53 (shl-lt (suc j) (21 + z) (t .3));
       exact = shl-exact (suc j) (21 + z) 64 (t .3) (omega arith);
     }
 
 -- the bits of R with a digit
-pub some : (s a b : ℕ) → (b ≡ 0 → ⊥) → refBits s a b ≡ s * 2 ^ 63 + ((4 * a + 773 - leadingZeros 32 b) * 2 ^ 52 + b * 2 ^ (21 + leadingZeros 32 b))
+pub some : (s a b : ℕ) → (b ≡ 0 → ⊥)
+    → refBits s a b ≡ s * 2 ^ 63 + ((4 * a + 773 - leadingZeros 32 b) * 2 ^ 52 + b * 2 ^ (21 + leadingZeros 32 b))
 unfolding refBits
 some s a zero n = absurd (n refl)
 some s a (suc b) n = refl

@@ -34,7 +34,8 @@ dataFields p c t = bdsFields (dataLen t) (unused t) p c
 abbrev pub dataBits : Packing → List ℕ → List ℕ
 dataBits p xs = runs (bitsIn (p .bits) xs) 0 8 (dataLen (length xs * p .bits) - bdsHead)
 
-pub bds-laid : (p : Packing) (c : Scale) (xs : List ℕ) → bdsOf p c xs ≡ laid (dataFields p c (length xs * p .bits)) (dataBits p xs)
+pub bds-laid : (p : Packing) (c : Scale) (xs : List ℕ)
+    → bdsOf p c xs ≡ laid (dataFields p c (length xs * p .bits)) (dataBits p xs)
 unfolding bdsOf
 bds-laid p c xs = refl
 

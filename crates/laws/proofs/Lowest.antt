@@ -1,4 +1,5 @@
--- The packer's R is the least present number: at most every one of them, and one of them; by induction on the points, and 0 where no point is present.
+-- The packer's R is the least present number: at most every one of them, and one of them; by induction on the points,
+-- and 0 where no point is present.
 use Prim.Native.Nat.{ℕ, zero, suc, _+_, _*_, _≤_, _<_}
 use mathlib.Core.Bool.{Bool, true, false, _&&_, cond}
 use mathlib.Core.Logic.{_⊎_, inl, inr}
@@ -32,13 +33,16 @@ record Lowest (present : ℕ → ℕ) (v : ℕ → ℤ) (n : ℕ) (z : ℤ) : Ty
   from : (z ≡ pos sourceMost) ⊎ OneOf present v n z
 
 module _ (present : ℕ → ℕ) (v : ℕ → ℤ) where
-  later : (n : ℕ) (z : ℤ) → (z ≡ pos sourceMost) ⊎ OneOf present v n z → (z ≡ pos sourceMost) ⊎ OneOf present v (suc n) z
+  later : (n : ℕ) (z : ℤ) → (z ≡ pos sourceMost) ⊎ OneOf present v n z
+      → (z ≡ pos sourceMost) ⊎ OneOf present v (suc n) z
   later n z (inl e) = inl e
   later n z (inr t) = inr (record { at = t .at; below = omega arith; here = t .here; is = t .is })
 
-  step : (n : ℕ) (z : ℤ) → Lowest present v n z → (p : Bool) → eqb (present n) 1 ≡ p → (t : Bool) → ltZ (v n) z ≡ t → Lowest present v (suc n) (cond (p && t) (v n) z)
+  step : (n : ℕ) (z : ℤ) → Lowest present v n z → (p : Bool) → eqb (present n) 1 ≡ p → (t : Bool) → ltZ (v n) z ≡ t
+      → Lowest present v (suc n) (cond (p && t) (v n) z)
   step n z h true e true l = record {
-    under = upto (λ i. present i ≡ 1 → ltZ (v i) (v n) ≡ false) n (λ i m q. not-below (v i) z (v n) (h .under i m q) l) (λ _. ltZ-irrefl (v n));
+    under = upto (λ i. present i ≡ 1 → ltZ (v i) (v n) ≡ false) n (λ i m q. not-below (v i) z (v n) (h .under i m q) l)
+        (λ _. ltZ-irrefl (v n));
     from = inr (record { at = n; below = omega arith; here = eqb-true (present n) 1 e; is = refl });
   }
   step n z h true e false l = record {
@@ -53,25 +57,30 @@ module _ (present : ℕ → ℕ) (v : ℕ → ℤ) where
   lowest-is : (n : ℕ) → Lowest present v n (lowest present v n)
   unfolding lowest
   lowest-is zero = record { under = λ i l. absurd (not-suc-le-zero l); from = inl refl }
-  lowest-is (suc n) = step n (lowest present v n) (lowest-is n) (eqb (present n) 1) refl (ltZ (v n) (lowest present v n)) refl
+  lowest-is (suc n) =
+      step n (lowest present v n) (lowest-is n) (eqb (present n) 1) refl (ltZ (v n) (lowest present v n)) refl
 
   -- one of them, where one is present and within the bound
   lowest-one : (n i : ℕ) → i < n → present i ≡ 1 → natAbs (v i) ≤ sourceMost → OneOf present v n (lowest present v n)
   lowest-one n i l e b = go (lowest-is n .from)
     where
-      go : (lowest present v n ≡ pos sourceMost) ⊎ OneOf present v n (lowest present v n) → OneOf present v n (lowest present v n)
+      go : (lowest present v n ≡ pos sourceMost) ⊎ OneOf present v n (lowest present v n)
+          → OneOf present v n (lowest present v n)
       go (inl q) = record {
         at = i;
         below = l;
         here = e;
-        is = ltZ-antisym (v i) (lowest present v n) (lowest-is n .under i l e) (subst (λ (z : ℤ). ltZ z (v i) ≡ false) (sym q) (not-over sourceMost (v i) b));
+        is = ltZ-antisym (v i) (lowest present v n) (lowest-is n .under i l e)
+            (subst (λ (z : ℤ). ltZ z (v i) ≡ false) (sym q) (not-over sourceMost (v i) b));
       }
       go (inr t) = t
 
-  lowest-most : (n : ℕ) → ((i : ℕ) → i < n → present i ≡ 1 → natAbs (v i) ≤ sourceMost) → natAbs (lowest present v n) ≤ sourceMost
+  lowest-most : (n : ℕ) → ((i : ℕ) → i < n → present i ≡ 1 → natAbs (v i) ≤ sourceMost)
+      → natAbs (lowest present v n) ≤ sourceMost
   lowest-most n h = go (lowest-is n .from)
     where
-      go : (lowest present v n ≡ pos sourceMost) ⊎ OneOf present v n (lowest present v n) → natAbs (lowest present v n) ≤ sourceMost
+      go : (lowest present v n ≡ pos sourceMost) ⊎ OneOf present v n (lowest present v n)
+          → natAbs (lowest present v n) ≤ sourceMost
       go (inl q) = subst (λ (z : ℤ). natAbs z ≤ sourceMost) (sym q) (omega arith)
       go (inr t) = subst (λ (z : ℤ). natAbs z ≤ sourceMost) (t .is) (h (t .at) (t .below) (t .here))
 
@@ -81,7 +90,9 @@ module _ (f : Source) where
 
   pub reference-none : ((i : ℕ) → i < length (f .numbers) → presentOf f i ≡ 0) → reference f ≡ pos 0
   unfolding reference
-  reference-none h = ap (λ (k : ℕ). cond (eqb k 0) (pos 0) lows) (count-zero (presentOf f) 0 (length (f .numbers)) (λ i l. h (0 + i) (omega arith)))
+  reference-none h =
+      ap (λ (k : ℕ). cond (eqb k 0) (pos 0) lows)
+      (count-zero (presentOf f) 0 (length (f .numbers)) (λ i l. h (0 + i) (omega arith)))
 
   reference-is : (i : ℕ) → i < length (f .numbers) → presentOf f i ≡ 1 → reference f ≡ lows
   unfolding reference
@@ -90,7 +101,9 @@ module _ (f : Source) where
       simp (ne-eqb (count (presentOf f) 0 (length (f .numbers))) 0 (omega arith))
 
   pub reference-under : AtPresent f (λ i. ltZ (numberOf f i) (reference f) ≡ false)
-  reference-under i l e = subst (λ (z : ℤ). ltZ (numberOf f i) z ≡ false) (sym (reference-is i l e)) (lowest-is (presentOf f) (numberOf f) (length (f .numbers)) .under i l e)
+  reference-under i l e =
+      subst (λ (z : ℤ). ltZ (numberOf f i) z ≡ false) (sym (reference-is i l e))
+      (lowest-is (presentOf f) (numberOf f) (length (f .numbers)) .under i l e)
 
   module _ (ok : WellFormed f) where
     pub reference-most : natAbs (reference f) ≤ sourceMost
@@ -116,4 +129,5 @@ module _ (f : Source) where
   over i l e =
       let v = numberOf f i in
       let r = reference f in
-      sym (-ℤ-+ℤ-cancel v r) ∙ ap (λ (z : ℤ). z +ℤ r) (gap v r (reference-under i l e)) ∙ +ℤ-comm (pos (natAbs (v -ℤ r))) r
+      sym (-ℤ-+ℤ-cancel v r) ∙ ap (λ (z : ℤ). z +ℤ r) (gap v r (reference-under i l e))
+      ∙ +ℤ-comm (pos (natAbs (v -ℤ r))) r

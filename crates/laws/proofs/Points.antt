@@ -27,12 +27,14 @@ pub record PointOk (bitmap : Bool) (bits m v : ℕ) : Type 0 where
   pub absent : m ≡ 0 → (bitmap ≡ true) × (v ≡ 0)
   pub value : v < 2 ^ bits
 
-absent-ok : (bitmap : Bool) (mark value : ℕ) → (eqb mark 0 && (not bitmap || not (eqb value 0))) ≡ false → mark ≡ 0 → (bitmap ≡ true) × (value ≡ 0)
+absent-ok : (bitmap : Bool) (mark value : ℕ) → (eqb mark 0 && (not bitmap || not (eqb value 0))) ≡ false → mark ≡ 0
+    → (bitmap ≡ true) × (value ≡ 0)
 absent-ok bitmap mark value e z =
     let h = or-false (not bitmap) (not (eqb value 0)) (and-false (eqb mark 0) _ (eq-eqb mark 0 z) e) in
     (not-false bitmap (h .0), is-eq value 0 (h .1))
 
-pub point-ok : (bitmap : Bool) (bits mark value : ℕ) → pointBad bitmap bits mark value ≡ false → PointOk bitmap bits mark value
+pub point-ok : (bitmap : Bool) (bits mark value : ℕ) → pointBad bitmap bits mark value ≡ false
+    → PointOk bitmap bits mark value
 unfolding pointBad
 point-ok bitmap bits mark value e =
     let h = or-false (eqb mark 0 && (not bitmap || not (eqb value 0))) (leb (2 ^ bits) value) e in
@@ -40,4 +42,5 @@ point-ok bitmap bits mark value e =
 
 -- what it leaves of the marks
 pub even-marks : (marks : List ℕ) (n : ℕ) → markOdd marks n ≡ false → (i : ℕ) → i < n → markOf marks i < 2
-even-marks marks n e i l = omega (arith, ltb-false 1 (markOf marks i) (none-below (λ i. ltb 1 (markOf marks i)) n e i l))
+even-marks marks n e i l =
+    omega (arith, ltb-false 1 (markOf marks i) (none-below (λ i. ltb 1 (markOf marks i)) n e i l))

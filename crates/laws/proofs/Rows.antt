@@ -1,4 +1,5 @@
--- Tables of refusals and lists of tests: a table accepts exactly when no row applies, and a row's tests fail together exactly when each does; by induction on the list.
+-- Tables of refusals and lists of tests: a table accepts exactly when no row applies, and a row's tests fail together
+-- exactly when each does; by induction on the list.
 use Prim.Native.Nat.{ℕ, _≤_, _<_}
 use mathlib.Core.Bool.{Bool, true, false, not, _||_, _&&_, cond}
 use mathlib.Core.Path.{_≡_, refl, sym, subst, _∙_, ap}
@@ -7,7 +8,7 @@ use native.Mathlib.Nat.{lt-irrefl}
 use borrow.Author.Tests.{le-ltb, ltb-false, eq-eqb}
 use lib.Dec.{T, ltb, eqb, eqb→eq, ltb→lt}
 use Rattle.rules.specs.declared.{Refusal.Refusal}
-use Rattle.rules.specs.Numbers.{outside}
+use Rattle.rules.specs.Numbers.{notWithin}
 use Rattle.rules.specs.Table.{Row, given, refusal, accepted, firstOr, first, orAll, anyOf}
 use Rattle.laws.specs.Tables.{Clear}
 use Rattle.bits.proofs.Tests.{or-false, or-none}
@@ -17,8 +18,10 @@ abbrev pub Numbered : List Row → Type 0
 Numbered [] = Unit
 Numbered (given r test ∷ rows) = T (ltb 0 (r .number)) × Numbered rows
 
-pub passed : (r : Refusal) (test : Bool) (below : Refusal) → T (ltb 0 (r .number)) → T (accepted (cond test r below)) → (test ≡ false) × T (accepted below)
-passed r true below p t = absurd (lt-irrefl 0 (subst (λ (k : ℕ). 0 < k) (eqb→eq (r .number) 0 t) (ltb→lt 0 (r .number) p)))
+pub passed : (r : Refusal) (test : Bool) (below : Refusal) → T (ltb 0 (r .number)) → T (accepted (cond test r below))
+    → (test ≡ false) × T (accepted below)
+passed r true below p t =
+    absurd (lt-irrefl 0 (subst (λ (k : ℕ). 0 < k) (eqb→eq (r .number) 0 t) (ltb→lt 0 (r .number) p)))
 passed r false below p t = (refl, t)
 
 pub clear : (rows : List Row) → Numbered rows → T (accepted (first rows)) → Clear rows
@@ -109,10 +112,10 @@ pub not-eq : (a b : ℕ) → a ≡ b → not (eqb a b) ≡ false
 not-eq a b e = ap not (eq-eqb a b e)
 
 -- a number within its range
-pub inside : (least most n : ℕ) → outside least most n ≡ false → (least ≤ n) × (n ≤ most)
+pub inside : (least most n : ℕ) → notWithin least most n ≡ false → (least ≤ n) × (n ≤ most)
 inside least most n e =
     let h = or-false (ltb n least) (ltb most n) e in
     (ltb-false n least (h .0), ltb-false most n (h .1))
 
-pub outside-no : (least most n : ℕ) → least ≤ n → n ≤ most → outside least most n ≡ false
+pub outside-no : (least most n : ℕ) → least ≤ n → n ≤ most → notWithin least most n ≡ false
 outside-no least most n a b = or-none (ltb n least) (ltb most n) (le-ltb n least a) (le-ltb most n b)

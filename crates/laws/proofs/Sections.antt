@@ -1,4 +1,5 @@
--- Where the sections of a taken message lie, and that each has the octets of its fields; from row 5, which says that each section starts where the one before ends.
+-- Where the sections of a taken message lie, and that each has the octets of its fields; from row 5, which says that
+-- each section starts where the one before ends.
 use Prim.Native.Nat.{ℕ, _+_, _-_, _%_, _≤_}
 use mathlib.Core.Bool.{Bool, true, false, _&&_, cond}
 use mathlib.Core.Path.{_≡_, refl}
@@ -10,7 +11,8 @@ use Rattle.rules.specs.declared.{Part.Part}
 use Rattle.rules.specs.Bounds.{messageMost, pdsLeast, pdsMost, gdsLeast, bmsLeast, bdsLeast}
 use Rattle.rules.specs.Numbers.{number}
 use Rattle.rules.specs.Table.{anyOf}
-use Rattle.rules.specs.Places.{after, endStart, pdsStart, hasGrid, hasBitmap, sizeBad, sectionFaults, placesFaults, placesOf, sectionAt}
+use Rattle.rules.specs.Places.{after, endStart, pdsStart, hasGrid, hasBitmap, sizeBad, sectionFaults, placesFaults}
+use Rattle.rules.specs.Places.{placesOf, sectionAt}
 use Rattle.rules.specs.Bitmap.{Lent}
 use Rattle.laws.specs.Taken.{Taken, ReadsInside}
 use Rattle.laws.proofs.Rows.{none-of, clash, is-true, is-eq, inside}
@@ -22,7 +24,8 @@ pub record Cut (there : Bool) (low : ℕ) (s : List ℕ) (p : Part) : Type 0 whe
   pub least : there ≡ true → low ≤ p .len
   pub even : there ≡ true → p .len % 2 ≡ 1 → ⊥
 
-cut-of : (there : Bool) (end low : ℕ) (s : List ℕ) (p : Part) → p .len ≡ cond there (number s (p .start) 1 3) 0 → (there && anyOf (sectionFaults end low p)) ≡ false → Cut there low s p
+cut-of : (there : Bool) (end low : ℕ) (s : List ℕ) (p : Part) → p .len ≡ cond there (number s (p .start) 1 3) 0
+    → (there && anyOf (sectionFaults end low p)) ≡ false → Cut there low s p
 unfolding sectionFaults
 cut-of true end low s p e h =
     let f = none-of (sectionFaults end low p) h in

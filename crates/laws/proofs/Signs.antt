@@ -1,4 +1,5 @@
--- Sign and magnitude over the sign bit's weight: what is written reads back and is never minus zero, and what is read and is not minus zero is written back.
+-- Sign and magnitude over the sign bit's weight: what is written reads back and is never minus zero, and what is read
+-- and is not minus zero is written back.
 use Prim.Native.Nat.{ℕ, zero, suc, _+_, _-_, _≤_, _<_}
 use mathlib.Core.Bool.{Bool, true, false, cond}
 use mathlib.Core.Path.{_≡_, refl, sym, subst, _∙_, ap}
@@ -63,4 +64,5 @@ signed-size c v h = go (ltb v (sign c)) refl
 
     go : (t : Bool) → ltb v (sign c) ≡ t → natAbs (cond t (pos v) (negℤ (pos (v - sign c)))) < sign c
     go true e = ltb-true v (sign c) e
-    go false e = subst (λ (x : ℕ). x < sign c) (sym (neg-size (v - sign c))) (less v (sign c) h (ltb-false v (sign c) e))
+    go false e =
+        subst (λ (x : ℕ). x < sign c) (sym (neg-size (v - sign c))) (less v (sign c) h (ltb-false v (sign c) e))

@@ -1,4 +1,5 @@
--- What 18's tests say of a source, there and back: it is well formed; and a test at the present points, as what holds at each of them or at one.
+-- What 18's tests say of a source, there and back: it is well formed; and a test at the present points, as what holds
+-- at each of them or at one.
 use Prim.Native.Nat.{ℕ}
 use mathlib.Core.Bool.{Bool, true, false, _&&_}
 use mathlib.Core.Path.{_≡_}
@@ -21,11 +22,15 @@ module _ (f : Source) (test : ℕ → Bool) where
 
   pub at-none : anyPresent f test ≡ false → AtPresent f (λ i. test i ≡ false)
   unfolding anyPresent
-  at-none e i l p = and-false (eqb (presentOf f i) 1) (test i) (eq-eqb (presentOf f i) 1 p) (none-below here (length (f .numbers)) e i l)
+  at-none e i l p =
+      and-false (eqb (presentOf f i) 1) (test i) (eq-eqb (presentOf f i) 1 p)
+      (none-below here (length (f .numbers)) e i l)
 
   pub none-at : AtPresent f (λ i. test i ≡ false) → anyPresent f test ≡ false
   unfolding anyPresent
-  none-at h = no-below here (length (f .numbers)) (λ i l. gated (eqb (presentOf f i) 1) (test i) (λ p. h i l (eqb-true (presentOf f i) 1 p)))
+  none-at h =
+      no-below here (length (f .numbers))
+      (λ i l. gated (eqb (presentOf f i) 1) (test i) (λ p. h i l (eqb-true (presentOf f i) 1 p)))
 
   pub some-at : anyPresent f test ≡ true → SomePresent f (λ i. test i ≡ true)
   unfolding anyPresent
@@ -45,7 +50,8 @@ well-formed f e =
       some = r .0;
       most = r .1;
       marks = λ i l. ltb-false 1 (presentOf f i) (none-below (λ i. ltb 1 (presentOf f i)) n (h .1 .1 .0) i l);
-      bound = λ i l p. within sourceMost (numberOf f i) (at-none f (λ i. beyond sourceMost (numberOf f i)) (h .1 .1 .1 .0) i l p);
+      bound = λ i l p. within sourceMost (numberOf f i)
+          (at-none f (λ i. beyond sourceMost (numberOf f i)) (h .1 .1 .1 .0) i l p);
     }
 
 pub formed-well : (f : Source) → WellFormed f → anyOf (sourceFaults f) ≡ false
@@ -58,7 +64,11 @@ formed-well f w =
         outside-no 1 pointsMost n (w .some) (w .most),
         (
           no-below (λ i. ltb 1 (presentOf f i)) n (λ i l. le-ltb 1 (presentOf f i) (w .marks i l)),
-          (none-at f (λ i. beyond sourceMost (numberOf f i)) (λ i l p. beyond-no sourceMost (numberOf f i) (w .bound i l p)), tt),
+          (
+            none-at f (λ i. beyond sourceMost (numberOf f i))
+                (λ i l p. beyond-no sourceMost (numberOf f i) (w .bound i l p)),
+            tt,
+          ),
         ),
       ),
     )

@@ -85,6 +85,7 @@ pub beyond-no : (most : ℕ) (z : ℤ) → natAbs z ≤ most → beyond most z �
 beyond-no most z h = or-none _ _ (not-over most z h) (not-under most z h)
 
 -- a number from 0 to a bound
-pub natural : (most : ℕ) (z : ℤ) → ltZ z (pos 0) ≡ false → ltZ (pos most) z ≡ false → (z ≡ pos (natAbs z)) × (natAbs z ≤ most)
+pub natural : (most : ℕ) (z : ℤ) → ltZ z (pos 0) ≡ false → ltZ (pos most) z ≡ false
+    → (z ≡ pos (natAbs z)) × (natAbs z ≤ most)
 natural most (pos n) a b = (refl, ltb-false most n b)
 natural most (negsuc n) a b = absurd (subst T a tt)

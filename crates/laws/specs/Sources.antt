@@ -1,4 +1,5 @@
--- Of a source field: that it is well formed, that it agrees with a message, and which steps fit it; and that R and E lie in their ranges.
+-- Of a source field: that it is well formed, that it agrees with a message, and which steps fit it; and that R and E
+-- lie in their ranges.
 use Prim.Native.Nat.{ℕ, _*_, _^_, _<_, _≤_}
 use mathlib.Core.Path.{_≡_}
 use mathlib.Core.List.{List}
@@ -36,7 +37,8 @@ pub record Agrees (s : List ℕ) (lent : Lent) (f : Source) : Type 0 where
   pub marks : (i : ℕ) → i < pointsIn s → presentIn s lent i ≡ presentOf f i
   pub d : decimalIn s .value ≡ f .d
 
--- "the reference value and binary scale lie in our stated ranges": E is e, from 0 to 24, and R is whole, in size m of at most 8,388,607
+-- "the reference value and binary scale lie in our stated ranges": E is e, from 0 to 24, and R is whole, in size m of
+-- at most 8,388,607
 pub record InRange (c : Scale) : Type 0 where
   pub e : ℕ
   pub is : c .e .value ≡ pos e

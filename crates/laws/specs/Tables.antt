@@ -14,8 +14,10 @@ abbrev pub Clear : List Row → Type 0
 Clear [] = Unit
 Clear (given r test ∷ rows) = (test ≡ false) × Clear rows
 
--- the reader's table is its groups over what was read, rows 1 to 6, 7 to 9, 10 and 11, and then row 12, which asks how many points are present
+-- the reader's table is its groups over what was read, rows 1 to 6, 7 to 9, 10 and 11, and then row 12, which asks how
+-- many points are present
 abbrev pub RowsInGroups : Type 0
 RowsInGroups =
     (s : List ℕ) (lent : Lent)
-    → messageTable s lent ≡ earlierRows s lent (parsedOf s) ++ (row 12 (lengthBad s (placesOf s .bds) (presentCount s lent) (packingIn s)) ∷ [])
+    → messageTable s lent ≡ earlierRows s lent (parsedOf s)
+    ++ (row 12 (lengthBad s (placesOf s .bds) (presentCount s lent) (packingIn s)) ∷ [])

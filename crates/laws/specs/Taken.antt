@@ -15,7 +15,8 @@ use Rattle.rules.specs.Reading.{ownRefusal, inForceIn}
 abbrev pub Taken : List ℕ → Lent → Type 0
 Taken s lent = T (accepted (ownRefusal s lent))
 
--- every fixed field of a taken message lies in its section: no answer leans on the 0 past the end, nor on a difference cut at 0
+-- every fixed field of a taken message lies in its section: no answer leans on the 0 past the end, nor on a difference
+-- cut at 0
 pub record Inside (s : List ℕ) : Type 0 where
   pub pds : pdsLeast ≤ placesOf s .pds .len
   pub gds : T (hasGrid s pdsStart) → gdsLeast ≤ placesOf s .gds .len
@@ -28,4 +29,6 @@ ReadsInside = (s : List ℕ) (lent : Lent) → Taken s lent → Inside s
 
 -- and so do the octets that hold the bitmap in force, in the slice they are part of
 abbrev pub BitmapInside : Type 0
-BitmapInside = (s : List ℕ) (lent : Lent) → Taken s lent → after (inForceIn s .part) ≤ length (cond (inForceIn s .stored) (lent .octets) s)
+BitmapInside =
+    (s : List ℕ) (lent : Lent) → Taken s lent
+    → after (inForceIn s .part) ≤ length (cond (inForceIn s .stored) (lent .octets) s)

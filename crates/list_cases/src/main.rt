@@ -1,6 +1,7 @@
 // The listing program's work on each file that an argument names: a line with the name, then the listing.
 use libc::STDOUT_FILENO;
 
+// The listing of the file that argument i names, under its name.
 fn print_case(i: usize) {
     let mut path = io::buffer();
     let n = os::arg(i, &mut path);
@@ -16,6 +17,7 @@ fn print_case(i: usize) {
     libc::close(fd);
 }
 
+// The listing of each file that an argument names.
 fn main() {
     let count = os::arg_count();
     let mut i: usize = 1;

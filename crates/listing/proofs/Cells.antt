@@ -1,5 +1,5 @@
--- The chart's cells: the grid point at a place inside the chart is one of the grid's, by the two cases of the scanning order; cells and rows
--- written one after another, by the laws of written text.
+-- The chart's cells: the grid point at a place inside the chart is one of the grid's, by the two cases of the scanning
+-- order; cells and rows written one after another, by the laws of written text.
 use mathlib.Core.Path.{_≡_, refl, sym, ap, _∙_, subst}
 use mathlib.Core.Bool.{Bool, true, false, cond}
 use Prim.Native.Nat.{ℕ, suc, _+_, _*_, _≤_, _<_}
@@ -11,7 +11,8 @@ use lib.Dec.{eqb}
 use lib.ListN.{length, getD}
 use lib.Arith.{digits-lt}
 use Rattle.chart.proofs.Laws.{turned-lt}
-use Rattle.rules.specs.declared.{Shape.Shape, GridPoint.GridPoint, Spot.Spot, Pointed.Pointed, Pointed.the-variants.At, Pointed.the-variants.Off}
+use Rattle.rules.specs.declared.{Shape.Shape, GridPoint.GridPoint, Spot.Spot, Pointed.Pointed, Pointed.the-variants.At}
+use Rattle.rules.specs.declared.{Pointed.the-variants.Off}
 use Rattle.rules.specs.Bitmap.{markOf, valueOf}
 use Rattle.rules.specs.Listing.{hyphen, joinedTo, stop, ended, line, decimal, cell, rowLine, rowLines}
 use Rattle.listing.specs.Text.{Wrote}
@@ -22,7 +23,9 @@ use Rattle.rules.specs.Chart.{west, north, byColumn, pointOf, pointsOn, rowsOn,
 -- a point of a rectangle
 lt-all : (ni nj scan : ℕ) (c : Spot) → c .row < nj → c .column < ni → pointOf ni nj scan c < ni * nj
 unfolding pointOf
-lt-all ni nj scan c hr hc = go (byColumn scan) _ _ (turned-lt (west scan) ni (c .column) _ refl hc) (turned-lt (north scan) nj (c .row) _ refl hr)
+lt-all ni nj scan c hr hc =
+    go (byColumn scan) _ _ (turned-lt (west scan) ni (c .column) _ refl hc)
+    (turned-lt (north scan) nj (c .row) _ refl hr)
   where
     go : (t : Bool) (i j : ℕ) → i < ni → j < nj → cond t (i * nj + j) (j * ni + i) < ni * nj
     go true i j h k = digits-lt h k
@@ -51,7 +54,8 @@ module _ (g : Shape) (c : Spot) (hr : c .row < rowsOn g) (hc : c .column < rowLo
 
 -- cell c of row r, and what follows it
 abbrev pub word : List ℕ → List ℕ → Shape → ℕ → ℕ → List ℕ
-word values marks g r c = ended (cell (markOf marks) values (pointOn g (record { row = r; column = c }))) (stop (rowLong g r) c)
+word values marks g r c =
+    ended (cell (markOf marks) values (pointOn g (record { row = r; column = c }))) (stop (rowLong g r) c)
 
 cell-most : (present : ℕ → ℕ) (values : List ℕ) (i : ℕ) → length (cell present values i) ≤ 10
 unfolding cell
@@ -65,15 +69,18 @@ pub here-most : (values marks : List ℕ) (i x : ℕ) → length (ended (cell (m
 here-most values marks i x = ended-most (cell (markOf marks) values i) x 10 (cell-most (markOf marks) values i)
 
 pub word-most : (values marks : List ℕ) (g : Shape) (r c : ℕ) → length (word values marks g r c) ≤ 11
-word-most values marks g r c = here-most values marks (pointOn g (record { row = r; column = c })) (stop (rowLong g r) c)
+word-most values marks g r c =
+    here-most values marks (pointOn g (record { row = r; column = c })) (stop (rowLong g r) c)
 
-pub row-most : (values marks : List ℕ) (g : Shape) (r : ℕ) → length (rowLine (markOf marks) values g r) ≤ rowLong g r * 11
+pub row-most : (values marks : List ℕ) (g : Shape) (r : ℕ)
+    → length (rowLine (markOf marks) values g r) ≤ rowLong g r * 11
 unfolding rowLine line
 row-most values marks g r = joined-most (word values marks g r) 11 (word-most values marks g r) (rowLong g r)
 
 -- one more cell of a row
 pub cell-turn : (t u v : List ℕ) (at mid next : ℕ) (values marks : List ℕ) (g : Shape) (r c i x : ℕ)
-    → Wrote t u at mid (joinedTo (word values marks g r) c) → Wrote u v mid next (ended (cell (markOf marks) values i) x)
+    → Wrote t u at mid (joinedTo (word values marks g r) c)
+    → Wrote u v mid next (ended (cell (markOf marks) values i) x)
     → i ≡ pointOn g (record { row = r; column = c }) → x ≡ stop (rowLong g r) c → next ≤ length t
     → Wrote t v at next (joinedTo (word values marks g r) (c + 1))
 cell-turn t u v at mid next values marks g r c i x a b e f h =
@@ -85,19 +92,24 @@ cell-turn t u v at mid next values marks g r c i x a b e f h =
 pub row-done : (t u : List ℕ) (at next : ℕ) (values marks : List ℕ) (g : Shape) (r c : ℕ) → c ≡ rowLong g r
     → Wrote t u at next (joinedTo (word values marks g r) c) → Wrote t u at next (rowLine (markOf marks) values g r)
 unfolding rowLine line
-row-done t u at next values marks g r c e a = subst (λ (k : ℕ). Wrote t u at next (joinedTo (word values marks g r) k)) e a
+row-done t u at next values marks g r c e a =
+    subst (λ (k : ℕ). Wrote t u at next (joinedTo (word values marks g r) k)) e a
 
 pub rows-done : (t u : List ℕ) (at next : ℕ) (values marks : List ℕ) (g : Shape) (r : ℕ) → r ≡ rowsOn g
-    → Wrote t u at next (joinedTo (rowLine (markOf marks) values g) r) → Wrote t u at next (rowLines (markOf marks) values g)
+    → Wrote t u at next (joinedTo (rowLine (markOf marks) values g) r)
+    → Wrote t u at next (rowLines (markOf marks) values g)
 unfolding rowLines
-rows-done t u at next values marks g r e a = subst (λ (k : ℕ). Wrote t u at next (joinedTo (rowLine (markOf marks) values g) k)) e a
+rows-done t u at next values marks g r e a =
+    subst (λ (k : ℕ). Wrote t u at next (joinedTo (rowLine (markOf marks) values g) k)) e a
 
 -- the room that is left for one more row
-pub rows-most : (values marks : List ℕ) (g : Shape) (r : ℕ) → length (joinedTo (rowLine (markOf marks) values g) r) ≤ r * (g .ni * 11)
+pub rows-most : (values marks : List ℕ) (g : Shape) (r : ℕ)
+    → length (joinedTo (rowLine (markOf marks) values g) r) ≤ r * (g .ni * 11)
 rows-most values marks g r = joined-most (rowLine (markOf marks) values g) (g .ni * 11) (row-most values marks g) r
 
 pub rows-room : (ni nj r : ℕ) → r ≡ nj → r * (ni * 11) ≡ ni * nj * 11
-rows-room ni nj r e = ap (λ (x : ℕ). x * (ni * 11)) e ∙ sym (mul-assoc nj ni 11) ∙ ap (λ (x : ℕ). x * 11) (mul-comm nj ni)
+rows-room ni nj r e =
+    ap (λ (x : ℕ). x * (ni * 11)) e ∙ sym (mul-assoc nj ni 11) ∙ ap (λ (x : ℕ). x * 11) (mul-comm nj ni)
 
 pub row-room : (ni nj r : ℕ) → r < nj → r * (ni * 11) + ni * 11 ≤ ni * nj * 11
 row-room ni nj r h =
@@ -108,11 +120,13 @@ row-room ni nj r h =
 
 -- what stands at a point, by its mark
 pub cell-here : (t u : List ℕ) (at next : ℕ) (values marks : List ℕ) (i x : ℕ) → eqb (markOf marks i) 1 ≡ true
-    → Wrote t u at next (ended (decimal (getD values i 0)) x) → Wrote t u at next (ended (cell (markOf marks) values i) x)
+    → Wrote t u at next (ended (decimal (getD values i 0)) x)
+    → Wrote t u at next (ended (cell (markOf marks) values i) x)
 unfolding cell
 cell-here t u at next values marks i x e a = rw e a
 
 pub cell-none : (t u v : List ℕ) (at mid next : ℕ) (values marks : List ℕ) (i x : ℕ) → eqb (markOf marks i) 1 ≡ false
-    → Wrote t u at mid (hyphen ∷ []) → Wrote u v mid next (x ∷ []) → next ≤ length t → Wrote t v at next (ended (cell (markOf marks) values i) x)
+    → Wrote t u at mid (hyphen ∷ []) → Wrote u v mid next (x ∷ []) → next ≤ length t
+    → Wrote t v at next (ended (cell (markOf marks) values i) x)
 unfolding cell
 cell-none t u v at mid next values marks i x e a b h = rw e (wrote-next a b h)

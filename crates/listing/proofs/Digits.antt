@@ -1,4 +1,5 @@
--- The digits of a number: the running weight, a turn of the loop that writes them, and how many a decimal has. By powers and `leastBelow`.
+-- The digits of a number: the running weight, a turn of the loop that writes them, and how many a decimal has. By
+-- powers and `leastBelow`.
 use mathlib.Core.Path.{_≡_, refl, sym, ap, _∙_, subst}
 use mathlib.Core.List.{List}
 use mathlib.Core.Bool.{Bool, true, false, _&&_, cond}
@@ -25,10 +26,12 @@ place base c n j = digit (n / base ^ (c - 1 - j) % base)
 pub weight-next : (base c j w : ℕ) → 0 < base → j < c → w ≡ base ^ (c - j) → w / base ≡ base ^ (c - (j + 1))
 weight-next base c j w p h e =
     let s : c - j ≡ suc (c - (j + 1)) = omega arith in
-    ap (λ (x : ℕ). x / base) (e ∙ ap (λ (x : ℕ). base ^ x) s ∙ pow-suc base (c - (j + 1))) ∙ mul-div-cancel (base ^ (c - (j + 1))) p
+    ap (λ (x : ℕ). x / base) (e ∙ ap (λ (x : ℕ). base ^ x) s ∙ pow-suc base (c - (j + 1)))
+    ∙ mul-div-cancel (base ^ (c - (j + 1))) p
 
 pub weight-pos : (base c j w : ℕ) → 0 < base → j < c → w ≡ base ^ (c - j) → 0 < w / base
-weight-pos base c j w p h e = subst (λ (x : ℕ). 0 < x) (sym (weight-next base c j w p h e)) (one-le-pow (c - (j + 1)) base p)
+weight-pos base c j w p h e =
+    subst (λ (x : ℕ). 0 < x) (sym (weight-next base c j w p h e)) (one-le-pow (c - (j + 1)) base p)
 
 pub digit-turn : (t u : List ℕ) (at base c n j w d : ℕ) → 0 < base → j < c → w ≡ base ^ (c - j) → at + c ≤ length t
     → Wrote t u at (at + j) (tab (place base c n) j) → d ≡ digit (n / (w / base) % base)
@@ -39,7 +42,8 @@ digit-turn t u at base c n j w d p h e r a q =
     subst (λ (x : ℕ). Wrote t (set u (at + j) x) at (at + (j + 1)) (tab (place base c n) (j + 1))) (sym is)
     (wrote-tab (place base c n) j a (omega arith))
 
-pub numeral-done : (t u : List ℕ) (at base c n j : ℕ) → j ≡ c → Wrote t u at (at + j) (tab (place base c n) j) → Wrote t u at (at + j) (numeral base c n)
+pub numeral-done : (t u : List ℕ) (at base c n j : ℕ) → j ≡ c → Wrote t u at (at + j) (tab (place base c n) j)
+    → Wrote t u at (at + j) (numeral base c n)
 unfolding numeral
 numeral-done t u at base c n j e a = subst (λ (x : ℕ). Wrote t u at (at + j) (tab (place base c n) x)) e a
 
@@ -68,11 +72,13 @@ search-done f k n e h q =
 abbrev pub short : ℕ → ℕ → Bool
 short n k = ltb n (10 ^ suc k)
 
-pub short-next : (n k power : ℕ) → power ≡ 10 ^ suc k → power ≤ n → leastBelow (short n) k ≡ k → leastBelow (short n) (k + 1) ≡ k + 1
+pub short-next : (n k power : ℕ) → power ≡ 10 ^ suc k → power ≤ n → leastBelow (short n) k ≡ k
+    → leastBelow (short n) (k + 1) ≡ k + 1
 short-next n k power e h l = rw add-one (search-next (short n) k l (le-ltb n (10 ^ suc k) (omega arith)))
 
 pub power-next : (k power : ℕ) → power ≡ 10 ^ suc k → power * 10 ≡ 10 ^ suc (k + 1)
-power-next k power e = ap (λ (x : ℕ). x * 10) e ∙ sym (pow-suc 10 (suc k)) ∙ ap (λ (x : ℕ). 10 ^ suc x) (sym (add-one k))
+power-next k power e =
+    ap (λ (x : ℕ). x * 10) e ∙ sym (pow-suc 10 (suc k)) ∙ ap (λ (x : ℕ). 10 ^ suc x) (sym (add-one k))
 
 least-most : (f : ℕ → Bool) (n : ℕ) → leastBelow f n ≤ n
 unfolding leastBelow
@@ -88,16 +94,19 @@ pub power-is : (k power : ℕ) → power ≡ 10 ^ suc k → power ≡ 10 ^ (k + 
 power-is k power e = e ∙ ap (λ (x : ℕ). 10 ^ x) (sym (add-one k))
 
 -- the digits of a decimal
-pub digits-are : (n k power : ℕ) → power ≡ 10 ^ suc k → leastBelow (short n) k ≡ k → k ≤ 9 → (k < 9 → n < power) → decimalDigits n ≡ k + 1
+pub digits-are : (n k power : ℕ) → power ≡ 10 ^ suc k → leastBelow (short n) k ≡ k → k ≤ 9 → (k < 9 → n < power)
+    → decimalDigits n ≡ k + 1
 unfolding decimalDigits
 digits-are n k power e l h q = ⊎-elim
-    (λ s. ap suc (search-done (short n) k 9 l s (lt-ltb n (10 ^ suc k) (subst (λ (x : ℕ). n < x) e (q s)))) ∙ sym (add-one k))
+    (λ s. ap suc (search-done (short n) k 9 l s (lt-ltb n (10 ^ suc k) (subst (λ (x : ℕ). n < x) e (q s))))
+    ∙ sym (add-one k))
     (λ s.
     let nine : k ≡ 9 = omega arith in
     ap suc (ap (leastBelow (short n)) (sym nine) ∙ l) ∙ sym (add-one k))
     (lt-or-ge k 9)
 
-pub decimal-done : (t u : List ℕ) (at next n k : ℕ) → decimalDigits n ≡ k + 1 → Wrote t u at next (numeral 10 (k + 1) n) → Wrote t u at next (decimal n)
+pub decimal-done : (t u : List ℕ) (at next n k : ℕ) → decimalDigits n ≡ k + 1 → Wrote t u at next (numeral 10 (k + 1) n)
+    → Wrote t u at next (decimal n)
 unfolding decimal
 decimal-done t u at next n k e a = subst (λ (x : ℕ). Wrote t u at next (numeral 10 x n)) (sym e) a
 

@@ -1,4 +1,5 @@
--- The magnitude of a signed number by way of 64 bits, where its negation always fits; and a decimal with its sign. By the number's two cases.
+-- The magnitude of a signed number by way of 64 bits, where its negation always fits; and a decimal with its sign. By
+-- the number's two cases.
 use mathlib.Core.Path.{_≡_, refl, ap, _∙_, subst}
 use mathlib.Core.Bool.{true, false}
 use mathlib.Core.List.{List, [], _∷_}
@@ -51,10 +52,12 @@ abs-neg (pos zero) = refl
 abs-neg (pos (suc n)) = refl
 abs-neg (negsuc n) = refl
 
-pub taken-is : (z : ℤ) → SFits w32 z → natAbs (toZ w64 (ofZ w64 (pos 0 -ℤ toZ w64 (ofZ w64 (toZ w32 (ofZ w32 z)))))) ≡ natAbs z
+pub taken-is : (z : ℤ) → SFits w32 z
+    → natAbs (toZ w64 (ofZ w64 (pos 0 -ℤ toZ w64 (ofZ w64 (toZ w32 (ofZ w32 z)))))) ≡ natAbs z
 taken-is z h = ap natAbs (back z h) ∙ abs-neg z
 
-pub left-fits : (z : ℤ) → SFits w32 z → ltZ (toZ w32 (ofZ w32 z)) (pos 0) ≡ false → T (nonNeg (toZ w32 (ofZ w32 z))) × Fits w32 (natAbs (toZ w32 (ofZ w32 z)))
+pub left-fits : (z : ℤ) → SFits w32 z → ltZ (toZ w32 (ofZ w32 z)) (pos 0) ≡ false
+    → T (nonNeg (toZ w32 (ofZ w32 z))) × Fits w32 (natAbs (toZ w32 (ofZ w32 z)))
 left-fits z h e = rw (toZ-ofZ h) (go z h (simp (toZ-ofZ h) at e))
   where
     go : (z : ℤ) → SFits w32 z → ltZ z (pos 0) ≡ false → T (nonNeg z) × Fits w32 (natAbs z)
@@ -65,8 +68,10 @@ pub left-is : (z : ℤ) → SFits w32 z → natAbs (toZ w32 (ofZ w32 z)) ≡ nat
 left-is z h = ap natAbs (toZ-ofZ h)
 
 -- a number below zero after its sign, and another as it is
-pub sign-taken : (t u v : List ℕ) (at mid next : ℕ) (z : ℤ) (m x : ℕ) → SFits w32 z → ltZ (toZ w32 (ofZ w32 z)) (pos 0) ≡ true → m ≡ natAbs (toZ w32 (ofZ w32 z))
-    → Wrote t u at mid (hyphen ∷ []) → Wrote u v mid next (ended (decimal m) x) → next ≤ length t → Wrote t v at next (ended (decimalSigned z) x)
+pub sign-taken : (t u v : List ℕ) (at mid next : ℕ) (z : ℤ) (m x : ℕ) → SFits w32 z
+    → ltZ (toZ w32 (ofZ w32 z)) (pos 0) ≡ true → m ≡ natAbs (toZ w32 (ofZ w32 z))
+    → Wrote t u at mid (hyphen ∷ []) → Wrote u v mid next (ended (decimal m) x) → next ≤ length t
+    → Wrote t v at next (ended (decimalSigned z) x)
 unfolding decimalSigned
 sign-taken t u v at mid next z m x h e f a b r = go z (f ∙ ap natAbs (toZ-ofZ h)) (simp (toZ-ofZ h) at e)
   where
@@ -74,7 +79,8 @@ sign-taken t u v at mid next z m x h e f a b r = go z (f ∙ ap natAbs (toZ-ofZ 
     go (pos n) f e = absurd (not-suc-le-zero (ltb-true n 0 e))
     go (negsuc n) f e = wrote-next a (subst (λ (k : ℕ). Wrote u v mid next (ended (decimal k) x)) f b) r
 
-pub sign-left : (t u : List ℕ) (at next : ℕ) (z : ℤ) (m x : ℕ) → SFits w32 z → ltZ (toZ w32 (ofZ w32 z)) (pos 0) ≡ false → m ≡ natAbs (toZ w32 (ofZ w32 z))
+pub sign-left : (t u : List ℕ) (at next : ℕ) (z : ℤ) (m x : ℕ) → SFits w32 z → ltZ (toZ w32 (ofZ w32 z)) (pos 0) ≡ false
+    → m ≡ natAbs (toZ w32 (ofZ w32 z))
     → Wrote t u at next (ended (decimal m) x) → Wrote t u at next (ended (decimalSigned z) x)
 unfolding decimalSigned
 sign-left t u at next z m x h e f a = go z (f ∙ ap natAbs (toZ-ofZ h)) (simp (toZ-ofZ h) at e)
@@ -84,5 +90,6 @@ sign-left t u at next z m x h e f a = go z (f ∙ ap natAbs (toZ-ofZ h)) (simp (
     go (negsuc n) f e = absurd (subst T e tt)
 
 -- a signed number handed on
-pub signed-arg : (t u : List ℕ) (at next : ℕ) (z : ℤ) (x : ℕ) → SFits w32 z → Wrote t u at next (ended (decimalSigned (toZ w32 (ofZ w32 z))) x) → Wrote t u at next (ended (decimalSigned z) x)
+pub signed-arg : (t u : List ℕ) (at next : ℕ) (z : ℤ) (x : ℕ) → SFits w32 z
+    → Wrote t u at next (ended (decimalSigned (toZ w32 (ofZ w32 z))) x) → Wrote t u at next (ended (decimalSigned z) x)
 signed-arg t u at next z x h a = subst (λ (k : ℤ). Wrote t u at next (ended (decimalSigned k) x)) (toZ-ofZ h) a

@@ -25,25 +25,30 @@ pub wrote-one : (t : List ℕ) (at x : ℕ) → at < length t → Wrote t (set t
 wrote-one t at x h = record { place = refl; text = set-placed t at x h }
 
 -- the text keeps its length
-pub length-wrote : {t u : List ℕ} {at next : ℕ} {w : List ℕ} → Wrote t u at next w → next ≤ length t → length u ≡ length t
+pub length-wrote : {t u : List ℕ} {at next : ℕ} {w : List ℕ} → Wrote t u at next w → next ≤ length t
+    → length u ≡ length t
 length-wrote {t} {u} {at} {next} {w} a h = ap length (a .text) ∙ length-placed t at w (omega (arith, a .place))
 
 -- a word is written after another
-pub wrote-next : {t u v : List ℕ} {at mid next : ℕ} {w x : List ℕ} → Wrote t u at mid w → Wrote u v mid next x → next ≤ length t → Wrote t v at next (w ++ x)
+pub wrote-next : {t u v : List ℕ} {at mid next : ℕ} {w x : List ℕ} → Wrote t u at mid w → Wrote u v mid next x
+    → next ≤ length t → Wrote t v at next (w ++ x)
 wrote-next {t} {u} {v} {at} {mid} {next} {w} {x} a b h = record {
-  place = b .place ∙ ap (λ (k : ℕ). k + length x) (a .place) ∙ add-assoc at (length w) (length x) ∙ ap (λ (k : ℕ). at + k) (sym (length-append w x));
+  place = b .place ∙ ap (λ (k : ℕ). k + length x) (a .place) ∙ add-assoc at (length w) (length x)
+      ∙ ap (λ (k : ℕ). at + k) (sym (length-append w x));
   text =
       b .text ∙ ap₂ (λ (d : List ℕ) (k : ℕ). placed d k x) (a .text) (a .place)
       ∙ placed-next t at w x (omega (arith, a .place, b .place));
 }
 
 -- one more part of many
-pub wrote-part : {t u v : List ℕ} {at mid next : ℕ} (w : ℕ → List ℕ) (n : ℕ) → Wrote t u at mid (joinedTo w n) → Wrote u v mid next (w n) → next ≤ length t → Wrote t v at next (joinedTo w (n + 1))
+pub wrote-part : {t u v : List ℕ} {at mid next : ℕ} (w : ℕ → List ℕ) (n : ℕ) → Wrote t u at mid (joinedTo w n)
+    → Wrote u v mid next (w n) → next ≤ length t → Wrote t v at next (joinedTo w (n + 1))
 unfolding joinedTo
 wrote-part {t} {u} {v} {at} {mid} {next} w n a b h = rw add-one (wrote-next a b h)
 
 -- one more letter of a table
-pub wrote-tab : {t u : List ℕ} {at : ℕ} (g : ℕ → ℕ) (n : ℕ) → Wrote t u at (at + n) (tab g n) → at + n < length t → Wrote t (set u (at + n) (g n)) at (at + (n + 1)) (tab g (n + 1))
+pub wrote-tab : {t u : List ℕ} {at : ℕ} (g : ℕ → ℕ) (n : ℕ) → Wrote t u at (at + n) (tab g n) → at + n < length t
+    → Wrote t (set u (at + n) (g n)) at (at + (n + 1)) (tab g (n + 1))
 unfolding tab
 wrote-tab {t} {u} {at} g n a h =
     let l = length-wrote a (omega arith) in
@@ -60,5 +65,6 @@ joined-most w b h zero = omega arith
 joined-most w b h (suc n) = simp (length-append, suc-mul) (omega (arith, joined-most w b h n, h n))
 
 -- all letters of a word
-pub word-done : (t u : List ℕ) (at i : ℕ) (w : List ℕ) → i ≡ length w → Wrote t u at (at + i) (tab (λ k. getD w k 0) i) → Wrote t u at (at + i) w
+pub word-done : (t u : List ℕ) (at i : ℕ) (w : List ℕ) → i ≡ length w → Wrote t u at (at + i) (tab (λ k. getD w k 0) i)
+    → Wrote t u at (at + i) w
 word-done t u at i w e a = subst (λ (x : List ℕ). Wrote t u at (at + i) x) (ap (tab (λ k. getD w k 0)) e ∙ tab-of w 0) a

@@ -16,10 +16,14 @@ pub record Wrote (before after : List ℕ) (at next : ℕ) (word : List ℕ) : T
 
 -- the two halves of a listing's first line, where all letters between words are spaces
 abbrev pub counts : ℕ → ℕ → ℕ → ℕ → List ℕ
-counts points present columns rows = ((ended (decimal points) space ++ ended (decimal present) space) ++ ended (decimal columns) space) ++ ended (decimal rows) space
+counts points present columns rows =
+    ((ended (decimal points) space ++ ended (decimal present) space) ++ ended (decimal columns) space)
+    ++ ended (decimal rows) space
 
 abbrev pub scales : ℤ → ℤ → ℕ → ℕ → List ℕ
-scales d e r bits = ((ended (decimalSigned d) space ++ ended (decimalSigned e) space) ++ ended (hexDigits r) space) ++ ended (decimal bits) newline
+scales d e r bits =
+    ((ended (decimalSigned d) space ++ ended (decimalSigned e) space) ++ ended (hexDigits r) space)
+    ++ ended (decimal bits) newline
 
 -- room for every listing
 abbrev pub textRoom : ℕ

@@ -1,4 +1,5 @@
-// The listing of a message as text: a line of what its header says, then a line for each row of its chart, or one that says why it is refused.
+// The listing of a message as text: a line of what its header says, then a line for each row of its chart, or one that
+// says why it is refused.
 ghost use mathlib.Core.Path.{_≡_};
 ghost use mathlib.Core.List.{_++_};
 ghost use Prim.Native.Nat.{_+_, _≤_};
@@ -28,14 +29,15 @@ use rules::Signed;
 use rules::bounds::LISTED_MOST;
 use rules::bounds::LISTED_ROOM;
 
-// Room for every listing: in the first line seven numbers of at most ten digits, two of them with a sign, and eight hex digits; then 4,096
-// values of at most ten digits; and a letter after each.
+// Room for every listing: in the first line seven numbers of at most ten digits, two of them with a sign, and eight hex
+// digits; then 4,096 values of at most ten digits; and a letter after each.
 pub const TEXT_ROOM: usize = 45144;
 
 // Points, present, columns and rows, with the space after each.
 fn counts(text: &mut [u8], points: u32, present: u32, columns: u32, rows: u32) -> usize
     requires { ⌜ 44 ≤ length (now text) ⌝ }
-    ensures { λ r. ⌜ (Wrote (now (text .entry)) (now (text .exit)) 0 r (theCounts points present columns rows)) × (r ≤ 44) ⌝ }
+    ensures { λ r. ⌜ (Wrote (now (text .entry)) (now (text .exit)) 0 r (theCounts points present columns rows))
+        × (r ≤ 44) ⌝ }
 {
     let a = number(text, 0, points, b' ');
     let b = number(text, a, present, b' ');
@@ -46,7 +48,8 @@ fn counts(text: &mut [u8], points: u32, present: u32, columns: u32, rows: u32) -
 // D, E, R and N, to the end of the line.
 fn scales(text: &mut [u8], at: usize, d: Signed, e: Signed, r: u32, bits: u8) -> usize
     requires { ⌜ at + 44 ≤ length (now text) ⌝ }
-    ensures { λ k. ⌜ (Wrote (now (text .entry)) (now (text .exit)) at k (theScales (d .value) (e .value) r bits)) × (k ≤ at + 44) ⌝ }
+    ensures { λ k. ⌜ (Wrote (now (text .entry)) (now (text .exit)) at k (theScales (d .value) (e .value) r bits))
+        × (k ≤ at + 44) ⌝ }
 {
     let f = signed(text, at, d.value, b' ');
     let g = signed(text, f, e.value, b' ');
@@ -79,14 +82,16 @@ fn lines(text: &mut [u8], h: Header, values: &[u32], marks: &[u8]) -> usize
     requires { ⌜ textRoom ≤ length (now text) ⌝ }
     requires { ⌜ pointsOf (h .grid) ≤ listedRoom ⌝ }
     requires { ⌜ listedRoom ≤ length (now values) ⌝ }
-    ensures { λ r. ⌜ (Wrote (now (text .entry)) (now (text .exit)) 0 r (firstLine h ++ rowLines (markOf (now (marks .entry))) (now (values .entry)) (h .grid .shape))) × (r ≤ textRoom) ⌝ }
+    ensures { λ r. ⌜ (Wrote (now (text .entry)) (now (text .exit)) 0 r
+        (firstLine h ++ rowLines (markOf (now (marks .entry))) (now (values .entry)) (h .grid .shape)))
+        × (r ≤ textRoom) ⌝ }
 {
     let next = first_line(text, h);
     rows(text, next, values, marks, h.grid.shape)
 }
 
-// Puts the listing of the octets s at the front of the text and answers its length; where the text has less than TEXT_ROOM octets it
-// stays and the answer is 0.
+// Puts the listing of the octets s at the front of the text and answers its length; where the text has less than
+// TEXT_ROOM octets it stays and the answer is 0.
 pub fn list(s: &[u8], text: &mut [u8]) -> u32
     ensures { λ r. ⌜ r ≡ length (listed (now (s .entry)) (now (text .entry))) ⌝ }
     ensures { λ _. ⌜ now (text .exit) ≡ placed (now (text .entry)) 0 (listed (now (s .entry)) (now (text .entry))) ⌝ }

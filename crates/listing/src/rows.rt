@@ -41,7 +41,8 @@ fn stop(n: u32, j: u32) -> u8
 fn cell(text: &mut [u8], at: usize, values: &[u32], marks: &[u8], i: usize, stop: u8) -> usize
     requires { ⌜ at + 11 ≤ length (now text) ⌝ }
     requires { ⌜ i < length (now values) ⌝ }
-    ensures { λ r. ⌜ Wrote (now (text .entry)) (now (text .exit)) at r (ended (theCell (markOf (now (marks .entry))) (now (values .entry)) i) stop) ⌝ }
+    ensures { λ r. ⌜ Wrote (now (text .entry)) (now (text .exit)) at r
+        (ended (theCell (markOf (now (marks .entry))) (now (values .entry)) i) stop) ⌝ }
 {
     if present(marks, i) {
         return number(text, at, values[i], stop);
@@ -55,7 +56,8 @@ fn row(text: &mut [u8], at: usize, values: &[u32], marks: &[u8], g: Shape, r: u3
     requires { ⌜ at + rowLong g r * 11 ≤ length (now text) ⌝ }
     requires { ⌜ r < rowsOn g ⌝ }
     requires { ⌜ pointsOn g ≤ length (now values) ⌝ }
-    ensures { λ k. ⌜ Wrote (now (text .entry)) (now (text .exit)) at k (rowLine (markOf (now (marks .entry))) (now (values .entry)) g r) ⌝ }
+    ensures { λ k. ⌜ Wrote (now (text .entry)) (now (text .exit)) at k
+        (rowLine (markOf (now (marks .entry))) (now (values .entry)) g r) ⌝ }
 {
     let wide = row_long(g, r);
     let mut next = at;
@@ -72,7 +74,8 @@ fn row(text: &mut [u8], at: usize, values: &[u32], marks: &[u8], g: Shape, r: u3
 pub(crate) fn rows(text: &mut [u8], at: usize, values: &[u32], marks: &[u8], g: Shape) -> usize
     requires { ⌜ at + pointsOn g * 11 ≤ length (now text) ⌝ }
     requires { ⌜ pointsOn g ≤ length (now values) ⌝ }
-    ensures { λ k. ⌜ (Wrote (now (text .entry)) (now (text .exit)) at k (rowLines (markOf (now (marks .entry))) (now (values .entry)) g)) × (k ≤ at + pointsOn g * 11) ⌝ }
+    ensures { λ k. ⌜ (Wrote (now (text .entry)) (now (text .exit)) at k
+        (rowLines (markOf (now (marks .entry))) (now (values .entry)) g)) × (k ≤ at + pointsOn g * 11) ⌝ }
 {
     let high = rows_on(g);
     let mut next = at;

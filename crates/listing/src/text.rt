@@ -4,9 +4,11 @@ ghost use mathlib.Core.List.{[], _∷_};
 ghost use Prim.Native.Nat.{_+_, _<_, _≤_, _^_};
 ghost use lib.IntN.{natAbs};
 ghost use lib.ListN.{length};
-ghost use Rattle.rules.specs.Listing.{digit as theDigit, numeral as theNumeral, decimal as theDecimal, decimalSigned, hexDigits, ended};
+ghost use Rattle.rules.specs.Listing.{digit as theDigit, numeral as theNumeral, decimal as theDecimal, decimalSigned};
+ghost use Rattle.rules.specs.Listing.{hexDigits, ended};
 ghost use Rattle.listing.specs.Text.{Wrote};
 
+// One character put at a place; the answer is the place after it.
 pub(crate) fn letter(text: &mut [u8], at: usize, x: u8) -> usize
     requires { ⌜ at < length (now text) ⌝ }
     ensures { λ r. ⌜ Wrote (now (text .entry)) (now (text .exit)) at r (x ∷ []) ⌝ }
@@ -15,6 +17,7 @@ pub(crate) fn letter(text: &mut [u8], at: usize, x: u8) -> usize
     at + 1
 }
 
+// The characters of w put from a place on; the answer is the place after them.
 pub(crate) fn word(text: &mut [u8], at: usize, w: &[u8]) -> usize
     requires { ⌜ at + length (now w) ≤ length (now text) ⌝ }
     ensures { λ r. ⌜ Wrote (now (text .entry)) (now (text .exit)) at r (now (w .entry)) ⌝ }
@@ -90,7 +93,8 @@ fn magnitude(z: i32) -> u32
 // A decimal with a sign where it is negative, and the letter after it.
 pub(crate) fn signed(text: &mut [u8], at: usize, z: i32, stop: u8) -> usize
     requires { ⌜ at + 12 ≤ length (now text) ⌝ }
-    ensures { λ r. ⌜ (Wrote (now (text .entry)) (now (text .exit)) at r (ended (decimalSigned z) stop)) × (r ≤ at + 12) ⌝ }
+    ensures { λ r. ⌜ (Wrote (now (text .entry)) (now (text .exit)) at r (ended (decimalSigned z) stop))
+        × (r ≤ at + 12) ⌝ }
 {
     if z < 0 {
         let next = letter(text, at, b'-');

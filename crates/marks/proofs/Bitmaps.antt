@@ -37,29 +37,34 @@ bit-in marks m i l = bit-of (tab (markOf marks) m) i ∙ ap (λ (a : ℕ). a % 2
 bit-after : (marks : List ℕ) (m i : ℕ) → m ≤ i → F marks m i ≡ 0
 bit-after marks m i l =
     bit-of (tab (markOf marks) m) i
-    ∙ ap (λ (a : ℕ). a % 2) (List·getD-eq-default (tab (markOf marks) m) 0 (subst (λ (a : ℕ). a ≤ i) (sym (length-tab (markOf marks) m)) l))
+    ∙ ap (λ (a : ℕ). a % 2)
+    (List·getD-eq-default (tab (markOf marks) m) 0 (subst (λ (a : ℕ). a ≤ i) (sym (length-tab (markOf marks) m)) l))
 
 -- one mark more in an octet, or none
 pub octet-none : (marks : List ℕ) (m p : ℕ) → 0 ≡ run (F marks m) p 0
 unfolding run
 octet-none marks m p = refl
 
-pub octet-more : (marks : List ℕ) (m p j x : ℕ) → p + j < m → x ≡ run (F marks m) p j → x * 2 + getD marks (p + j) 0 % 2 ≡ run (F marks m) p (j + 1)
+pub octet-more : (marks : List ℕ) (m p j x : ℕ) → p + j < m → x ≡ run (F marks m) p j
+    → x * 2 + getD marks (p + j) 0 % 2 ≡ run (F marks m) p (j + 1)
 unfolding run
 octet-more marks m p j x l e = rw add-one (ap₂ (λ (y z : ℕ). y * 2 + z) e (sym (bit-in marks m (p + j) l)))
 
 pub octet-end : (marks : List ℕ) (m p j x : ℕ) → m ≤ p + j → x ≡ run (F marks m) p j → x * 2 ≡ run (F marks m) p (j + 1)
 unfolding run
-octet-end marks m p j x l e = rw add-one (sym (add-zero (x * 2)) ∙ ap₂ (λ (y z : ℕ). y * 2 + z) e (sym (bit-after marks m (p + j) l)))
+octet-end marks m p j x l e =
+    rw add-one (sym (add-zero (x * 2)) ∙ ap₂ (λ (y z : ℕ). y * 2 + z) e (sym (bit-after marks m (p + j) l)))
 
 pub octet-lt : (marks : List ℕ) (m p j x : ℕ) → j < 8 → x ≡ run (F marks m) p j → x < 128
-octet-lt marks m p j x l e = subst (λ (y : ℕ). y < 128) (sym e) (run-below (bitsIn-bits 1 (tab (markOf marks) m)) p j 7 (omega arith))
+octet-lt marks m p j x l e =
+    subst (λ (y : ℕ). y < 128) (sym e) (run-below (bitsIn-bits 1 (tab (markOf marks) m)) p j 7 (omega arith))
 
 pub octet-after : (marks : List ℕ) (m p : ℕ) → m ≤ p → 0 ≡ run (F marks m) p 8
 octet-after marks m p l = sym (run-zero (F marks m) p 8 (λ j k. bit-after marks m (p + j) (omega arith)))
 
 -- one octet more
-pub placed-set : (d : List ℕ) (at : ℕ) (p : List ℕ) (x : ℕ) → at + length p < length d → set (placed d at p) (at + length p) x ≡ placed d at (p ++ (x ∷ []))
+pub placed-set : (d : List ℕ) (at : ℕ) (p : List ℕ) (x : ℕ) → at + length p < length d
+    → set (placed d at p) (at + length p) x ≡ placed d at (p ++ (x ∷ []))
 placed-set d at p x h =
     let l = length-placed d at p (omega arith) in
     set-placed (placed d at p) (at + length p) x (omega arith) ∙ placed-next d at p (x ∷ []) (omega arith)
@@ -68,14 +73,17 @@ pub octets-none : (d : List ℕ) (at : ℕ) (f : ℕ → ℕ) → d ≡ placed d
 unfolding runs tab
 octets-none d at f = sym (placed-none d at)
 
-pub octets-more : (d out : List ℕ) (f : ℕ → ℕ) (at g x : ℕ) → at + g < length d → x ≡ run f (g * 8) 8 → out ≡ placed d at (runs f 0 8 g)
+pub octets-more : (d out : List ℕ) (f : ℕ → ℕ) (at g x : ℕ) → at + g < length d → x ≡ run f (g * 8) 8
+    → out ≡ placed d at (runs f 0 8 g)
     → set out (at + g) x ≡ placed d at (runs f 0 8 (g + 1))
 unfolding runs tab
 octets-more d out f at g x h e o =
     let l : length (runs f 0 8 g) ≡ g = length-runs f 0 8 g in
     ap₂ (λ (y : List ℕ) (n : ℕ). set y (at + n) x) o (sym l)
     ∙ placed-set d at (runs f 0 8 g) x (omega arith)
-    ∙ ap (placed d at) (ap (λ (y : ℕ). runs f 0 8 g ++ (y ∷ [])) (e ∙ ap (λ (a : ℕ). run f a 8) (sym (zero-add (g * 8)))) ∙ ap (tab (λ i. run f (0 + i * 8) 8)) (sym (add-one g)))
+    ∙ ap (placed d at)
+    (ap (λ (y : ℕ). runs f 0 8 g ++ (y ∷ [])) (e ∙ ap (λ (a : ℕ). run f a 8) (sym (zero-add (g * 8))))
+    ∙ ap (tab (λ i. run f (0 + i * 8) 8)) (sym (add-one g)))
 
 -- marks past the end are zeros too
 same-bit : (marks : List ℕ) (n m i : ℕ) → m ≡ n - (n - length marks) → F marks m i ≡ F marks n i
@@ -86,18 +94,22 @@ same-bit marks n m i e = ⊎-elim
     (λ (h : n ≤ i). bit-after marks n i h) (lt-or-ge i n)))
     (lt-or-ge i m)
 
-pub put-fits : (marks out : List ℕ) (n k c : ℕ) → k + c ≤ length out → marksPut marks n out k c ≡ placed out k (runs (F marks n) 0 8 c)
+pub put-fits : (marks out : List ℕ) (n k c : ℕ) → k + c ≤ length out
+    → marksPut marks n out k c ≡ placed out k (runs (F marks n) 0 8 c)
 unfolding marksPut
 put-fits marks out n k c h = rw (le-leb (k + c) (length out) h)
 
-pub put-done : (marks out o : List ℕ) (n m k c : ℕ) → m ≡ n - (n - length marks) → k + c ≤ length out → o ≡ placed out k (runs (F marks m) 0 8 c)
+pub put-done : (marks out o : List ℕ) (n m k c : ℕ) → m ≡ n - (n - length marks) → k + c ≤ length out
+    → o ≡ placed out k (runs (F marks m) 0 8 c)
     → (true ≡ leb (k + c) (length out)) × (o ≡ marksPut marks n out k c)
 put-done marks out o n m k c e h p = (
   sym (le-leb (k + c) (length out) h),
-  p ∙ ap (placed out k) (runs-ext (F marks m) (F marks n) 0 0 8 c (λ i l. same-bit marks n m (0 + i) e)) ∙ sym (put-fits marks out n k c h),
+  p ∙ ap (placed out k) (runs-ext (F marks m) (F marks n) 0 0 8 c (λ i l. same-bit marks n m (0 + i) e))
+      ∙ sym (put-fits marks out n k c h),
 )
 
-pub put-short : (marks out : List ℕ) (n k c : ℕ) → length out < k + c → (false ≡ leb (k + c) (length out)) × (out ≡ marksPut marks n out k c)
+pub put-short : (marks out : List ℕ) (n k c : ℕ) → length out < k + c
+    → (false ≡ leb (k + c) (length out)) × (out ≡ marksPut marks n out k c)
 unfolding marksPut
 put-short marks out n k c h = let t : leb (k + c) (length out) ≡ false = lt-leb (k + c) (length out) h in (sym t, rw t)
 
@@ -105,10 +117,13 @@ put-short marks out n k c h = let t : leb (k + c) (length out) ≡ false = lt-le
 abbrev pub Marked : (ℕ → ℕ) → List ℕ → ℕ → List ℕ → ℕ → ℕ → Type 0
 Marked f out₀ i₀ out i n = (d : List ℕ) → n ≤ length d → out₀ ≡ tab f i₀ ++ drop i₀ d → out ≡ tab f i ++ drop i d
 
-pub mark-turn : (f : ℕ → ℕ) (out₀ out : List ℕ) (i₀ i n x : ℕ) → i < n → x ≡ f i → Marked f out₀ i₀ out i n → Marked f out₀ i₀ (set out i x) (i + 1) n
-mark-turn f out₀ out i₀ i n x l e m d k z = ap₂ (λ (o : List ℕ) (y : ℕ). set o i y) (m d k z) e ∙ fill f i d (omega arith)
+pub mark-turn : (f : ℕ → ℕ) (out₀ out : List ℕ) (i₀ i n x : ℕ) → i < n → x ≡ f i → Marked f out₀ i₀ out i n
+    → Marked f out₀ i₀ (set out i x) (i + 1) n
+mark-turn f out₀ out i₀ i n x l e m d k z =
+    ap₂ (λ (o : List ℕ) (y : ℕ). set o i y) (m d k z) e ∙ fill f i d (omega arith)
 
-pub marks-same : (f : ℕ → ℕ) (out₀ out : List ℕ) (i₀ i j n : ℕ) → i ≡ j → Marked f out₀ i₀ out i n → Marked f out₀ i₀ out j n
+pub marks-same : (f : ℕ → ℕ) (out₀ out : List ℕ) (i₀ i j n : ℕ) → i ≡ j → Marked f out₀ i₀ out i n
+    → Marked f out₀ i₀ out j n
 marks-same f out₀ out i₀ i j n e m = subst (λ (x : ℕ). Marked f out₀ i₀ out x n) e m
 
 -- from a bitmap
@@ -122,9 +137,11 @@ octet-bit map k g j l = let e : (k + g) * 8 + j ≡ k * 8 + (g * 8 + j) = omega 
 pub bit-past : (map : List ℕ) (k i : ℕ) → (length map - k) * 8 ≤ i → 0 ≡ G map k i
 unfolding bitsIn bitOf
 bit-past map k i l =
-    sym (ap (λ (x : ℕ). x / 2 ^ (7 - (k * 8 + i) % 8) % 2) (mark-past map ((k * 8 + i) / 8) (omega arith)) ∙ ap (λ (x : ℕ). x % 2) (zero-div (2 ^ (7 - (k * 8 + i) % 8))))
+    sym (ap (λ (x : ℕ). x / 2 ^ (7 - (k * 8 + i) % 8) % 2) (mark-past map ((k * 8 + i) / 8) (omega arith))
+    ∙ ap (λ (x : ℕ). x % 2) (zero-div (2 ^ (7 - (k * 8 + i) % 8))))
 
-pub marked-ext : (f g : ℕ → ℕ) (n : ℕ) (marks : List ℕ) → ((i : ℕ) → i < n → f i ≡ g i) → markedBy f n marks ≡ markedBy g n marks
+pub marked-ext : (f g : ℕ → ℕ) (n : ℕ) (marks : List ℕ) → ((i : ℕ) → i < n → f i ≡ g i)
+    → markedBy f n marks ≡ markedBy g n marks
 unfolding markedBy
 marked-ext f g n marks e = ap (λ (x : List ℕ). cond (leb n (length marks)) (x ++ drop n marks) marks) (tab-ext f g n e)
 
@@ -132,9 +149,11 @@ pub marked-fits : (f : ℕ → ℕ) (n : ℕ) (marks : List ℕ) → n ≤ lengt
 unfolding markedBy
 marked-fits f n marks h = rw (le-leb n (length marks) h)
 
-pub fill-done : (f : ℕ → ℕ) (marks o : List ℕ) (n : ℕ) → n ≤ length marks → o ≡ tab f n ++ drop n marks → (true ≡ leb n (length marks)) × (o ≡ markedBy f n marks)
+pub fill-done : (f : ℕ → ℕ) (marks o : List ℕ) (n : ℕ) → n ≤ length marks → o ≡ tab f n ++ drop n marks
+    → (true ≡ leb n (length marks)) × (o ≡ markedBy f n marks)
 fill-done f marks o n h e = (sym (le-leb n (length marks) h), e ∙ sym (marked-fits f n marks h))
 
-pub fill-short : (f : ℕ → ℕ) (marks : List ℕ) (n : ℕ) → length marks < n → (false ≡ leb n (length marks)) × (marks ≡ markedBy f n marks)
+pub fill-short : (f : ℕ → ℕ) (marks : List ℕ) (n : ℕ) → length marks < n
+    → (false ≡ leb n (length marks)) × (marks ≡ markedBy f n marks)
 unfolding markedBy
 fill-short f marks n h = let t : leb n (length marks) ≡ false = lt-leb n (length marks) h in (sym t, rw t)

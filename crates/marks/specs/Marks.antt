@@ -1,5 +1,5 @@
--- What a list of marks says of n points, and how it goes to a bitmap and comes from one: all over `markOf`, and n stands beside the list.
--- Marks, values and bits past the end are 0.
+-- What a list of marks says of n points, and how it goes to a bitmap and comes from one: all over `markOf`, and n
+-- stands beside the list. Marks, values and bits past the end are 0.
 use Prim.Native.Nat.{ℕ, _+_, _*_}
 use mathlib.Core.Bool.{Bool, cond, not, _&&_}
 use mathlib.Core.List.{List, _++_}
@@ -25,9 +25,11 @@ strays values marks n = anyBelow (λ i. eqb (markOf marks i) 0 && not (eqb (valu
 unfoldable pub marksDiffer : List ℕ → ℕ → List ℕ → ℕ → Bool
 marksDiffer map k marks n = anyBelow (λ i. not (eqb (bitsIn 8 map (k * 8 + i)) (markOf marks i))) n
 
--- c octets from place k on become the marks of n points, eight to an octet, the first leftmost, and zeros after the last, where they fit
+-- c octets from place k on become the marks of n points, eight to an octet, the first leftmost, and zeros after the
+-- last, where they fit
 unfoldable pub marksPut : List ℕ → ℕ → List ℕ → ℕ → ℕ → List ℕ
-marksPut marks n out k c = cond (leb (k + c) (length out)) (placed out k (runs (bitsIn 1 (tab (markOf marks) n)) 0 8 c)) out
+marksPut marks n out k c =
+    cond (leb (k + c) (length out)) (placed out k (runs (bitsIn 1 (tab (markOf marks) n)) 0 8 c)) out
 
 -- the marks of n points become what `present` says, where they fit, and those after them stay
 unfoldable pub markedBy : (ℕ → ℕ) → ℕ → List ℕ → List ℕ

@@ -30,6 +30,7 @@ pub(crate) fn inside(len: usize, k: usize, n: u32) -> usize
     within(n as usize, within((n as usize + 7) / 8, len - k) * 8)
 }
 
+// 1 for a present point, 0 for an absent one.
 fn one(mark: u8) -> u8
     ensures { λ r. ⌜ r ≡ cond (eqb mark 1) 1 0 ⌝ }
 {
@@ -39,7 +40,8 @@ fn one(mark: u8) -> u8
     0
 }
 
-// How many of the c points from point p on are present. So few that an octet counts them: the machine then takes many at once.
+// How many of the c points from point p on are present. So few that an octet counts them: the machine then takes many
+// at once.
 fn some_present(marks: &[u8], p: usize, c: usize) -> u8
     requires { ⌜ (p + c ≤ length (now marks)) × (c ≤ 255) ⌝ }
     ensures { λ r. ⌜ r ≡ ones (here (now (marks .entry))) p c ⌝ }

@@ -14,7 +14,8 @@ use crate::judging::within;
 // The octet of the c marks from point p on, eight or the last of m points, and zeros after them.
 fn octet_of(marks: &[u8], p: usize, c: usize) -> u8
     requires { ⌜ (p + c ≤ length (now marks)) × (c ≤ 8) ⌝ }
-    ensures { λ r. ⌜ ((m : ℕ) → p + c ≤ m → (c < 8 → m ≡ p + c) → r ≡ run (bitsIn 1 (tab (markOf (now (marks .entry))) m)) p 8) ⌝ }
+    ensures { λ r. ⌜ ((m : ℕ) → p + c ≤ m → (c < 8 → m ≡ p + c) → r
+        ≡ run (bitsIn 1 (tab (markOf (now (marks .entry))) m)) p 8) ⌝ }
 {
     let mut x: u8 = 0;
     let mut j: usize = 0;
@@ -44,7 +45,8 @@ fn octet_after(marks: &[u8], m: usize, g: usize) -> u8
 fn put_inside(marks: &[u8], m: usize, out: &mut [u8], k: usize, c: usize)
     requires { ⌜ m ≤ length (now marks) ⌝ }
     requires { ⌜ k + c ≤ length (now out) ⌝ }
-    ensures { λ _. ⌜ now (out .exit) ≡ placed (now (out .entry)) k (runs (bitsIn 1 (tab (markOf (now (marks .entry))) m)) 0 8 c) ⌝ }
+    ensures { λ _. ⌜ now (out .exit) ≡
+        placed (now (out .entry)) k (runs (bitsIn 1 (tab (markOf (now (marks .entry))) m)) 0 8 c) ⌝ }
 {
     let whole = within(m / 8, c);
     let mut g: usize = 0;
@@ -58,8 +60,8 @@ fn put_inside(marks: &[u8], m: usize, out: &mut [u8], k: usize, c: usize)
     }
 }
 
-// c octets of out from place k on become the marks of n points, eight to an octet, the first leftmost, and zeros after the last. Where out is
-// too short nothing changes and the answer is false.
+// c octets of out from place k on become the marks of n points, eight to an octet, the first leftmost, and zeros after
+// the last. Where out is too short nothing changes and the answer is false.
 pub fn put(marks: &[u8], n: u32, out: &mut [u8], k: usize, c: usize) -> bool
     ensures { λ r. ⌜ r ≡ leb (k + c) (length (now (out .entry))) ⌝ }
     ensures { λ _. ⌜ now (out .exit) ≡ marksPut (now (marks .entry)) n (now (out .entry)) k c ⌝ }
@@ -77,7 +79,8 @@ pub fn put(marks: &[u8], n: u32, out: &mut [u8], k: usize, c: usize) -> bool
 fn fill_inside(map: &[u8], k: usize, m: usize, marks: &mut [u8])
     requires { ⌜ m ≤ (length (now map) - k) * 8 ⌝ }
     requires { ⌜ m ≤ length (now marks) ⌝ }
-    ensures { λ _. ⌜ now (marks .exit) ≡ tab (λ i. bitsIn 8 (now (map .entry)) (k * 8 + i)) m ++ drop m (now (marks .entry)) ⌝ }
+    ensures { λ _. ⌜ now (marks .exit) ≡
+        tab (λ i. bitsIn 8 (now (map .entry)) (k * 8 + i)) m ++ drop m (now (marks .entry)) ⌝ }
 {
     let mut g: usize = 0;
     while g < m / 8 {
@@ -100,7 +103,8 @@ fn fill_inside(map: &[u8], k: usize, m: usize, marks: &mut [u8])
 fn fill_same(x: u8, from: usize, n: usize, marks: &mut [u8])
     requires { ⌜ from ≤ n ⌝ }
     requires { ⌜ n ≤ length (now marks) ⌝ }
-    ensures { λ _. ⌜ ((f : ℕ → ℕ) (d : List ℕ) → ((i : ℕ) → from ≤ i → i < n → x ≡ f i) → n ≤ length d → now (marks .entry) ≡ tab f from ++ drop from d → now (marks .exit) ≡ tab f n ++ drop n d) ⌝ }
+    ensures { λ _. ⌜ ((f : ℕ → ℕ) (d : List ℕ) → ((i : ℕ) → from ≤ i → i < n → x ≡ f i) → n ≤ length d
+        → now (marks .entry) ≡ tab f from ++ drop from d → now (marks .exit) ≡ tab f n ++ drop n d) ⌝ }
 {
     let mut i = from;
     while i < n {
@@ -109,10 +113,12 @@ fn fill_same(x: u8, from: usize, n: usize, marks: &mut [u8])
     }
 }
 
-// The marks of n points become the n bits from octet k of a bitmap on. Where the list is shorter nothing changes and the answer is false.
+// The marks of n points become the n bits from octet k of a bitmap on. Where the list is shorter nothing changes and
+// the answer is false.
 pub fn fill(map: &[u8], k: usize, n: u32, marks: &mut [u8]) -> bool
     ensures { λ r. ⌜ r ≡ leb n (length (now (marks .entry))) ⌝ }
-    ensures { λ _. ⌜ now (marks .exit) ≡ markedBy (λ i. bitsIn 8 (now (map .entry)) (k * 8 + i)) n (now (marks .entry)) ⌝ }
+    ensures { λ _. ⌜ now (marks .exit) ≡
+        markedBy (λ i. bitsIn 8 (now (map .entry)) (k * 8 + i)) n (now (marks .entry)) ⌝ }
 {
     if n as usize <= marks.len() {
         let m = inside(map.len(), k, n);

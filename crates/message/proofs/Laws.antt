@@ -13,29 +13,38 @@ use Rattle.rules.specs.Bitmap.{Lent, inForce, bitmapOctets, presentBy}
 use Rattle.rules.specs.Values.{lengthBad}
 use Rattle.laws.proofs.Judged.{rows-in-groups}
 use Rattle.reply.proofs.Stages.{or-append, staged}
-use Rattle.rules.specs.Reading.{parsedOf, foundBy, inForceIn, presentIn, presentCount, packingIn, layoutRows, gridRows, dataRows, earlierRows, refusedBy, foundIn, ownRefusal, answerBy, headerOf}
+use Rattle.rules.specs.Reading.{parsedOf, foundBy, inForceIn, presentIn, presentCount, packingIn, layoutRows, gridRows}
+use Rattle.rules.specs.Reading.{dataRows, earlierRows, refusedBy, foundIn, ownRefusal, answerBy, headerOf}
 
 -- the stages of rows 1 to 11
 pub stages : (s : List ℕ) (lent : Lent) (q : Parsed) (none x y r : Refusal) → none ≡ refusal 0
     → x ≡ firstOr (dataRows s lent (q .places .bms) (q .bitmap) (q .points) (q .packing)) none
-    → y ≡ firstOr (gridRows s (q .places) (q .found)) x → r ≡ firstOr (layoutRows s (q .places)) y → r ≡ first (earlierRows s lent q)
+    → y ≡ firstOr (gridRows s (q .places) (q .found)) x → r ≡ firstOr (layoutRows s (q .places)) y
+    → r ≡ first (earlierRows s lent q)
 unfolding first earlierRows
 stages s lent q none x y r en ex ey er =
     er ∙ ap (firstOr (layoutRows s (q .places)))
-    (ey ∙ ap (firstOr (gridRows s (q .places) (q .found))) (ex ∙ ap (firstOr (dataRows s lent (q .places .bms) (q .bitmap) (q .points) (q .packing))) en))
-    ∙ ap (firstOr (layoutRows s (q .places))) (sym (or-append (gridRows s (q .places) (q .found)) (dataRows s lent (q .places .bms) (q .bitmap) (q .points) (q .packing)) (refusal 0)))
-    ∙ sym (or-append (layoutRows s (q .places)) (gridRows s (q .places) (q .found) ++ dataRows s lent (q .places .bms) (q .bitmap) (q .points) (q .packing)) (refusal 0))
+    (ey ∙ ap (firstOr (gridRows s (q .places) (q .found)))
+    (ex ∙ ap (firstOr (dataRows s lent (q .places .bms) (q .bitmap) (q .points) (q .packing))) en))
+    ∙ ap (firstOr (layoutRows s (q .places)))
+    (sym (or-append (gridRows s (q .places) (q .found))
+    (dataRows s lent (q .places .bms) (q .bitmap) (q .points) (q .packing)) (refusal 0)))
+    ∙ sym (or-append (layoutRows s (q .places))
+    (gridRows s (q .places) (q .found) ++ dataRows s lent (q .places .bms) (q .bitmap) (q .points) (q .packing))
+    (refusal 0))
 
 module _ (s : List ℕ) (lent : Lent) where
   abbrev late : Bool
   late = lengthBad s (placesOf s .bds) (presentCount s lent) (packingIn s)
 
-  own : (t : Bool) (r : Refusal) → t ≡ late → r ≡ first (earlierRows s lent (parsedOf s)) → ownRefusal s lent ≡ cond (accepted r) (cond t (refusal 12) (refusal 0)) r
+  own : (t : Bool) (r : Refusal) → t ≡ late → r ≡ first (earlierRows s lent (parsedOf s))
+      → ownRefusal s lent ≡ cond (accepted r) (cond t (refusal 12) (refusal 0)) r
   unfolding ownRefusal earlierRows layoutRows gridRows dataRows first firstOr
   own t r e f =
       ap first (rows-in-groups s lent)
       ∙ or-append (earlierRows s lent (parsedOf s)) (row 12 late ∷ []) (refusal 0)
-      ∙ staged (earlierRows s lent (parsedOf s)) (cond late (refusal 12) (refusal 0)) (tt, (tt, (tt, (tt, (tt, (tt, (tt, (tt, (tt, (tt, (tt, tt)))))))))))
+      ∙ staged (earlierRows s lent (parsedOf s)) (cond late (refusal 12) (refusal 0))
+      (tt, (tt, (tt, (tt, (tt, (tt, (tt, (tt, (tt, (tt, (tt, tt)))))))))))
       ∙ ap₂ (λ (u : Bool) (q : Refusal). cond (accepted q) (cond u (refusal 12) (refusal 0)) q) (sym e) (sym f)
 
   answer : (x : Refusal) → ownRefusal s lent ≡ x → headerOf s lent ≡ cond (accepted x) (foundIn s lent) (refusedBy x)
@@ -56,7 +65,11 @@ module _ (s : List ℕ) (lent : Lent) where
         (t : Bool) (et : t ≡ lengthBad s (q .places .bds) m (q .packing)) where
       m-of : m ≡ presentCount s lent
       unfolding parsedOf presentCount presentIn inForceIn
-      m-of = em ∙ ap {B = ℕ} (λ (x : Parsed). count (presentBy (x .bitmap) (bitmapOctets s (lent .octets) (inForce (x .bitmap) (x .places .bms) (x .points)))) 0 (x .points)) eq
+      m-of = em
+          ∙ ap {B = ℕ}
+          (λ (x : Parsed). count
+          (presentBy (x .bitmap) (bitmapOctets s (lent .octets) (inForce (x .bitmap) (x .places .bms) (x .points)))) 0
+          (x .points)) eq
 
       t-of : t ≡ late
       unfolding parsedOf

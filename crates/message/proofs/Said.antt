@@ -1,4 +1,5 @@
--- What a header says of its message: where its refusal is 0, each field is the message's own; by the definition's two cases.
+-- What a header says of its message: where its refusal is 0, each field is the message's own; by the definition's two
+-- cases.
 use mathlib.Core.Path.{_≡_, refl, sym, ap, _∙_}
 use mathlib.Core.Bool.{Bool, true, false, cond}
 use mathlib.Core.List.{List}
@@ -9,11 +10,13 @@ use Rattle.rules.specs.Table.{refusal, accepted}
 use Rattle.rules.specs.Places.{placesOf}
 use Rattle.rules.specs.Grid.{theGrid}
 use Rattle.rules.specs.Bitmap.{Lent}
-use Rattle.rules.specs.Reading.{parsedOf, foundBy, foundIn, refusedBy, ownRefusal, answerBy, headerOf, gridOf, bitmapIn, pointsIn, presentCount, packingIn, scaleIn}
+use Rattle.rules.specs.Reading.{parsedOf, foundBy, foundIn, refusedBy, ownRefusal, answerBy, headerOf, gridOf, bitmapIn}
+use Rattle.rules.specs.Reading.{pointsIn, presentCount, packingIn, scaleIn}
 use Rattle.laws.proofs.Judged.{own-zero}
 
 -- the refusal in a header is the message's own
-pub refusal-by : (b : Bool) (r : Refusal) (x : Header) → x .refusal ≡ refusal 0 → (accepted r ≡ true → r ≡ refusal 0) → accepted r ≡ b → cond b x (refusedBy r) .refusal ≡ r
+pub refusal-by : (b : Bool) (r : Refusal) (x : Header) → x .refusal ≡ refusal 0 → (accepted r ≡ true → r ≡ refusal 0)
+    → accepted r ≡ b → cond b x (refusedBy r) .refusal ≡ r
 unfolding refusedBy
 refusal-by true r x e z h = e ∙ sym (z h)
 refusal-by false r x e z h = refl
@@ -21,7 +24,9 @@ refusal-by false r x e z h = refl
 module _ (s : List ℕ) (lent : Lent) (h : Header) (e : h ≡ headerOf s lent) where
   pub own : h .refusal ≡ ownRefusal s lent
   unfolding headerOf answerBy foundIn foundBy
-  own = ap (λ (x : Header). x .refusal) e ∙ refusal-by (accepted (ownRefusal s lent)) (ownRefusal s lent) (foundIn s lent) refl (own-zero s lent) refl
+  own =
+      ap (λ (x : Header). x .refusal) e
+      ∙ refusal-by (accepted (ownRefusal s lent)) (ownRefusal s lent) (foundIn s lent) refl (own-zero s lent) refl
 
   pub refused : (h .refusal .number ≡ 0 → ⊥) → accepted (ownRefusal s lent) ≡ false
   refused z = ne-eqb _ _ (λ (q : ownRefusal s lent .number ≡ 0). z (ap (λ (x : Refusal). x .number) own ∙ q))

@@ -9,8 +9,10 @@ use Rattle.rules.specs.Reading.{messageTable, ownRefusal}
 use Rattle.reply.proofs.Stages.{or-append, staged}
 
 pub one-more : (s : List ℕ) (lent : Lent) (n : ℕ) (test : Bool)
-    → first (messageTable s lent ++ (row n test ∷ [])) ≡ cond (accepted (ownRefusal s lent)) (cond test (refusal n) (refusal 0)) (ownRefusal s lent)
+    → first (messageTable s lent ++ (row n test ∷ []))
+    ≡ cond (accepted (ownRefusal s lent)) (cond test (refusal n) (refusal 0)) (ownRefusal s lent)
 unfolding ownRefusal messageTable first firstOr
 one-more s lent n test =
     or-append (messageTable s lent) (row n test ∷ []) (refusal 0)
-    ∙ staged (messageTable s lent) (cond test (refusal n) (refusal 0)) (tt, (tt, (tt, (tt, (tt, (tt, (tt, (tt, (tt, (tt, (tt, (tt, tt))))))))))))
+    ∙ staged (messageTable s lent) (cond test (refusal n) (refusal 0))
+    (tt, (tt, (tt, (tt, (tt, (tt, (tt, (tt, (tt, (tt, (tt, (tt, tt))))))))))))

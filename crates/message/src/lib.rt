@@ -2,9 +2,14 @@
 ghost use mathlib.Core.Path.{_≡_};
 ghost use Rattle.rules.specs.Table.{refusal, firstOr, first};
 ghost use Rattle.rules.specs.Reading.{gridRows, dataRows, earlierRows, parsedOf, foundBy, refusedBy, headerOf};
+ghost use Rattle.rules.specs.Bitmap.{lentAs};
 use bitmap::bitmap_at;
 use bitmap::bitmap_bad;
 use bitmap::present;
+use data_section::length_bad;
+use data_section::packing_at;
+use data_section::packing_bad;
+use data_section::scale_at;
 use grid::gds_bad;
 use grid::grid_bad;
 use grid::grid_from;
@@ -12,13 +17,13 @@ use grid::grid_in;
 use grid::grid_missing;
 use grid::points;
 use grid::the_grid;
+use layout::PDS_START;
+use layout::has_bitmap;
+use layout::has_grid;
+use layout::layout;
+use layout::places;
 use octets::plain;
 use octets::signed_two;
-use places::PDS_START;
-use places::has_bitmap;
-use places::has_grid;
-use places::layout;
-use places::places;
 use reply::refusal;
 use reply::refuse;
 use rules::Bitmap;
@@ -32,13 +37,9 @@ use rules::Places;
 use rules::Refusal;
 use rules::Scale;
 use time::moment_at;
-use values::length_bad;
-use values::packing_at;
-use values::packing_bad;
-use values::scale_at;
 
 // Rows 7 to 9, then the rows below.
-fn shaped(s: &[u8], p: Places, found: Found, below: Refusal) -> Refusal
+fn grid_judged(s: &[u8], p: Places, found: Found, below: Refusal) -> Refusal
     ensures { λ r. ⌜ r ≡ firstOr (gridRows (now (s .entry)) p found) below ⌝ }
 {
     let wrong = has_grid(s) & gds_bad(s, p.gds);
@@ -50,7 +51,7 @@ fn shaped(s: &[u8], p: Places, found: Found, below: Refusal) -> Refusal
 }
 
 // Rows 10 and 11, then the rows below.
-fn filled(
+fn data_judged(
     s: &[u8],
     number: u16,
     store: &[u8],
@@ -60,7 +61,8 @@ fn filled(
     packing: Packing,
     below: Refusal,
 ) -> Refusal
-    ensures { λ r. ⌜ r ≡ firstOr (dataRows (now (s .entry)) (record { number = number; octets = now (store .entry) }) bms bitmap n packing) below ⌝ }
+    ensures { λ r. ⌜ r ≡
+        firstOr (dataRows (now (s .entry)) (lentAs number (now (store .entry))) bms bitmap n packing) below ⌝ }
 {
     refuse(
         10,
@@ -119,15 +121,15 @@ fn parse(s: &[u8]) -> Parsed
     }
 }
 
-// Rows 1 to 11.
+// Rows 1 to 11: all but the length of the data, which waits for the count of present points.
 fn judge(s: &[u8], number: u16, store: &[u8], q: Parsed) -> Refusal
-    ensures { λ r. ⌜ r ≡ first (earlierRows (now (s .entry)) (record { number = number; octets = now (store .entry) }) q) ⌝ }
+    ensures { λ r. ⌜ r ≡ first (earlierRows (now (s .entry)) (lentAs number (now (store .entry))) q) ⌝ }
 {
     let none = refusal(0);
     let places = q.places;
     let found = q.found;
     let bitmap = q.bitmap;
-    let last = filled(
+    let last = data_judged(
         s,
         number,
         store,
@@ -137,7 +139,7 @@ fn judge(s: &[u8], number: u16, store: &[u8], q: Parsed) -> Refusal
         q.packing,
         none,
     );
-    layout(s, places, shaped(s, places, found, last))
+    layout(s, places, grid_judged(s, places, found, last))
 }
 
 // The answer to a message that is taken, m points of which are present.
@@ -164,7 +166,7 @@ fn taken(s: &[u8], q: Parsed, m: u32) -> Header
 
 // The header of a message, with the stored bitmap of a number lent.
 pub fn header(s: &[u8], number: u16, store: &[u8]) -> Header
-    ensures { λ r. ⌜ r ≡ headerOf (now (s .entry)) (record { number = number; octets = now (store .entry) }) ⌝ }
+    ensures { λ r. ⌜ r ≡ headerOf (now (s .entry)) (lentAs number (now (store .entry))) ⌝ }
 {
     let q = parse(s);
     let r = judge(s, number, store, q);

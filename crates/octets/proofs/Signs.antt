@@ -1,4 +1,5 @@
--- Signs at 32 bits: a magnitude negated fits, and is what the machine reads back; a magnitude compared, and taken off again.
+-- Signs at 32 bits: a magnitude negated fits, and is what the machine reads back; a magnitude compared, and taken off
+-- again.
 use Prim.Native.Nat.{ℕ, zero, suc, _+_, _-_, _*_, _<_, _≤_, _^_}
 use mathlib.Core.Bool.{cond, true, false, _&&_}
 use lib.Dec.{ltb}
@@ -32,7 +33,8 @@ neg-back m h = rw (neg-of m h) (toZ-ofZ (neg-fits m h))
 -- a field that was read and made a signed number, as the machine hands it on
 pub back : (half v b : ℕ) (r : ℤ) → v ≡ b → r ≡ cond (ltb v half) (pos v) (negℤ (pos (v - half))) → mag r < 2147483648
     → toZ w32 (ofZ w32 r) ≡ cond (ltb b half) (pos b) (negℤ (pos (b - half)))
-back half v b r e f h = toZ-ofZ (record { sfits = h }) ∙ f ∙ ap (λ (x : ℕ). cond (ltb x half) (pos x) (negℤ (pos (x - half)))) e
+back half v b r e f h =
+    toZ-ofZ (record { sfits = h }) ∙ f ∙ ap (λ (x : ℕ). cond (ltb x half) (pos x) (negℤ (pos (x - half)))) e
 
 -- a signed field of a number handed on in 32 bits
 pub kept : (z : ℤ) (r : Signed) → r ≡ plain (toZ w32 (ofZ w32 z)) → SFits w32 z → r ≡ plain z
@@ -41,7 +43,8 @@ kept z r e h = e ∙ ap plain (toZ-ofZ h)
 pub low : (half v : ℕ) → v < half → half ≤ 2147483648 → toZ w32 v ≡ cond (ltb v half) (pos v) (negℤ (pos (v - half)))
 low half v h l = rw (lt-ltb v half h) (toZ-pos w32 (omega arith))
 
-pub high : (half v : ℕ) → half ≤ v → v - half < 2147483648 → toZ w32 (ofZ w32 (pos 0 -ℤ toZ w32 (v - half))) ≡ cond (ltb v half) (pos v) (negℤ (pos (v - half)))
+pub high : (half v : ℕ) → half ≤ v → v - half < 2147483648
+    → toZ w32 (ofZ w32 (pos 0 -ℤ toZ w32 (v - half))) ≡ cond (ltb v half) (pos v) (negℤ (pos (v - half)))
 high half v h l = rw (le-ltb v half h) (neg-back (v - half) l)
 
 -- a magnitude below h, by two comparisons
@@ -62,7 +65,8 @@ pub above-zero : (z : ℤ) → ltZ z (pos 0) ≡ false → z ≡ pos (natAbs z)
 above-zero (pos n) t = refl
 above-zero (negsuc n) t = let e : _≡_ {A = ℕ} 0 1 = cc in absurd (omega arith)
 
-pub below-word : (z : ℤ) → SFits w32 z → ltZ z (pos 0) ≡ true → natAbs z < 2147483648 → toZ w32 (ofZ w32 (pos 0 -ℤ toZ w32 (ofZ w32 z))) ≡ pos (natAbs z)
+pub below-word : (z : ℤ) → SFits w32 z → ltZ z (pos 0) ≡ true → natAbs z < 2147483648
+    → toZ w32 (ofZ w32 (pos 0 -ℤ toZ w32 (ofZ w32 z))) ≡ pos (natAbs z)
 below-word z f t b = simp (toZ-ofZ f, below-zero z t) (toZ-pos w32 b)
 
 -- the spelling of a number whose magnitude leaves the sign bit free has c octets

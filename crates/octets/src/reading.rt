@@ -1,4 +1,5 @@
-// Numbers of one to four octets, high octet first, and signed fields of two and three. All are total: past the end an octet reads 0.
+// Numbers of one to four octets, high octet first, and signed fields of two and three. All are total: past the end an
+// octet reads 0.
 ghost use mathlib.Core.Path.{_≡_};
 ghost use Prim.Native.Nat.{_+_, _-_, _*_, _<_, _≤_};
 ghost use lib.ListN.{getD};

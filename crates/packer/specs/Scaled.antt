@@ -24,8 +24,8 @@ unfoldable pub scaledFrom : List ℤ → List ℕ → ℤ → ℕ → List ℕ
 scaledFrom numbers marks r e = tab (λ i. scaledBy (getD numbers i (pos 0)) (markOf marks i) r e) (length numbers)
 
 -- 5, 18, 15 and 11
-unfoldable pub sourceRows : List ℕ → Packing → Source → List Row
-sourceRows pds packing f =
+unfoldable pub packRows : List ℕ → Packing → Source → List Row
+packRows pds packing f =
     row 5 (anyOf (pdsFaults pds))
     ∷ row 18 (anyOf (sourceFaults f))
     ∷ row 15 (decimalDiffers (decimalAt pds 0 .value) (f .d))

@@ -1,21 +1,26 @@
-// The packer: a message of a source field, with R the least present number and E the least step for which all X fit. Its rows are 5, 18, 15,
-// 11, 19 and then the writer's over the list of X. That list stands nowhere: a block of it is made where it is put.
+// The packer: a message of a source field, with R the least present number and E the least step for which all X fit.
+// Its rows are 5, 18, 15, 11, 19 and then the writer's over the list of X. That list stands nowhere: a block of it is
+// made where it is put.
 ghost use mathlib.Core.Path.{_≡_};
 ghost use Rattle.rules.specs.Table.{first};
 ghost use Rattle.rules.specs.Writing.{writeOf, outputAfter};
 ghost use Rattle.rules.specs.Packing.{packOf, packedAfter};
 ghost use Rattle.writable.specs.Listed.{Listed};
-ghost use Rattle.sections.specs.Given.{parts};
-ghost use Rattle.packer.specs.Scaled.{scaledFrom, sourceRows};
+ghost use Rattle.framing.specs.Given.{parts};
+ghost use Rattle.packer.specs.Scaled.{scaledFrom, packRows};
+ghost use Rattle.rules.specs.Bitmap.{lentAs};
+ghost use Rattle.rules.specs.Checking.{sourceAs};
 
 mod putting; // putting.rt: X at present points
 
+use data_section::packing_bad;
+use framing::lay;
 use grid::grid_from;
 use grid::points;
 use grid::the_grid;
+use layout::SEVENS;
 use octets::plain;
 use octets::signed_two;
-use places::SEVENS;
 use puts::put_four;
 use putting::put_scaled;
 use reply::last;
@@ -29,17 +34,16 @@ use rules::Scale;
 use rules::Written;
 use rules::bounds::STEP_MOST;
 use scaling::Choice;
-use sections::lay;
 use source::decimal_differs;
 use source::source_bad;
 use source::spelling;
-use values::packing_bad;
 use writable::judge_marks;
 use writable::pds_bad;
 
 // 5, 18, 15 and 11: the PDS, the source, D of both, and the packing.
 fn judge_source(pds: &[u8], packing: Packing, numbers: &[i32], marks: &[u8], d: i32) -> Refusal
-    ensures { λ r. ⌜ r ≡ first (sourceRows (now (pds .entry)) packing (record { numbers = now (numbers .entry); marks = now (marks .entry); d = d })) ⌝ }
+    ensures { λ r. ⌜ r ≡
+        first (packRows (now (pds .entry)) packing (sourceAs (now (numbers .entry)) (now (marks .entry)) d)) ⌝ }
 {
     let own = signed_two(pds, 0, 27);
     let later = refuse(
@@ -66,9 +70,18 @@ fn write_scaled(
     choice: Choice,
     out: &mut [u8],
 ) -> Written
-    requires { ⌜ Listed (scaledFrom (now numbers) (now marks) (choice .reference) (choice .exponent)) (now marks) (form .packing .bits) ⌝ }
-    ensures { λ w. ⌜ w ≡ writeOf (parts (now (pds .entry)) form scale number (now (store .entry)) (scaledFrom (now (numbers .entry)) (now (marks .entry)) (choice .reference) (choice .exponent)) (now (marks .entry))) (now (out .entry)) ⌝ }
-    ensures { λ _. ⌜ now (out .exit) ≡ outputAfter (parts (now (pds .entry)) form scale number (now (store .entry)) (scaledFrom (now (numbers .entry)) (now (marks .entry)) (choice .reference) (choice .exponent)) (now (marks .entry))) (now (out .entry)) ⌝ }
+    requires { ⌜ Listed (scaledFrom (now numbers) (now marks) (choice .reference) (choice .exponent)) (now marks)
+        (form .packing .bits) ⌝ }
+    ensures { λ w. ⌜ w ≡
+        writeOf
+        (parts (now (pds .entry)) form scale number (now (store .entry))
+        (scaledFrom (now (numbers .entry)) (now (marks .entry)) (choice .reference) (choice .exponent))
+        (now (marks .entry))) (now (out .entry)) ⌝ }
+    ensures { λ _. ⌜ now (out .exit) ≡
+        outputAfter
+        (parts (now (pds .entry)) form scale number (now (store .entry))
+        (scaledFrom (now (numbers .entry)) (now (marks .entry)) (choice .reference) (choice .exponent))
+        (now (marks .entry))) (now (out .entry)) ⌝ }
 {
     let grid = form.grid;
     let found = grid_from(grid, pds, 0);
@@ -105,7 +118,8 @@ fn write_scaled(
     written(0, frame.len)
 }
 
-// Packs a source field, V and marks at a D, into a message of a PDS, a form and the lent bitmap of a number. Answers its length.
+// Packs a source field, V and marks at a D, into a message of a PDS, a form and the lent bitmap of a number. Answers
+// its length.
 pub fn pack(
     pds: &[u8],
     form: Form,
@@ -116,8 +130,12 @@ pub fn pack(
     d: i32,
     out: &mut [u8],
 ) -> Written
-    ensures { λ r. ⌜ r ≡ packOf (now (pds .entry)) form (record { number = number; octets = now (store .entry) }) (record { numbers = now (numbers .entry); marks = now (marks .entry); d = d }) (now (out .entry)) ⌝ }
-    ensures { λ _. ⌜ now (out .exit) ≡ packedAfter (now (pds .entry)) form (record { number = number; octets = now (store .entry) }) (record { numbers = now (numbers .entry); marks = now (marks .entry); d = d }) (now (out .entry)) ⌝ }
+    ensures { λ r. ⌜ r ≡
+        packOf (now (pds .entry)) form (lentAs number (now (store .entry)))
+        (sourceAs (now (numbers .entry)) (now (marks .entry)) d) (now (out .entry)) ⌝ }
+    ensures { λ _. ⌜ now (out .exit) ≡
+        packedAfter (now (pds .entry)) form (lentAs number (now (store .entry)))
+        (sourceAs (now (numbers .entry)) (now (marks .entry)) d) (now (out .entry)) ⌝ }
 {
     let packing = form.packing;
     let early = judge_source(pds, packing, numbers, marks, d);

@@ -36,7 +36,9 @@ fn put_points(
     requires { ⌜ (length (now xs) ≡ blockLength) × (length (now held) ≡ heldRoom) ⌝ }
     requires { ⌜ count (markOf (now marks)) 0 (length (now numbers)) * bits / 8 + 4 ≤ length (now out) ⌝ }
     ensures { λ _. ⌜ now (out .exit) ≡
-        packedInto bits (gathered (markOf (now (marks .entry))) (valueOf (scaledFrom (now (numbers .entry)) (now (marks .entry)) r e)) (length (now (numbers .entry)))) (now (out .entry)) ⌝ }
+        packedInto bits
+        (gathered (markOf (now (marks .entry))) (valueOf (scaledFrom (now (numbers .entry)) (now (marks .entry)) r e))
+        (length (now (numbers .entry)))) (now (out .entry)) ⌝ }
 {
     let mut progress = Progress { place: 0, held: 0 };
     let mut i: usize = 0;
@@ -96,11 +98,15 @@ pub(crate) fn put_scaled(
     out: &mut [u8],
 )
     requires { ⌜ bits ≤ bitsMost ⌝ }
-    requires { ⌜ Listed (scaledFrom (now numbers) (now marks) (choice .reference) (choice .exponent)) (now marks) bits ⌝ }
+    requires { ⌜ Listed (scaledFrom (now numbers) (now marks) (choice .reference) (choice .exponent)) (now marks)
+        bits ⌝ }
     requires { ⌜ m ≡ count (markOf (now marks)) 0 (length (now numbers)) ⌝ }
     requires { ⌜ m * bits / 8 + 4 ≤ length (now out) ⌝ }
     ensures { λ _. ⌜ now (out .exit) ≡
-        packedInto bits (gathered (markOf (now (marks .entry))) (valueOf (scaledFrom (now (numbers .entry)) (now (marks .entry)) (choice .reference) (choice .exponent))) (length (now (numbers .entry)))) (now (out .entry)) ⌝ }
+        packedInto bits
+        (gathered (markOf (now (marks .entry)))
+        (valueOf (scaledFrom (now (numbers .entry)) (now (marks .entry)) (choice .reference) (choice .exponent)))
+        (length (now (numbers .entry)))) (now (out .entry)) ⌝ }
 {
     let r = choice.reference;
     let e = choice.exponent;

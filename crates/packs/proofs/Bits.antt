@@ -20,13 +20,17 @@ module _ (out : List ℕ) (at n v : ℕ) (b : Bool) (s : b ≡ ltb v (2 ^ n)) wh
 
   module _ (h : Judged ≡ true) where
     pub bits-width : n ≤ 32
-    bits-width = leb-true n 32 (and-left (leb n 32) b (and-left (leb n 32 && b) (leb (octetsFor (at + n)) (length out)) h))
+    bits-width =
+        leb-true n 32 (and-left (leb n 32) b (and-left (leb n 32 && b) (leb (octetsFor (at + n)) (length out)) h))
 
     pub bits-small : v < 2 ^ n
-    bits-small = ltb-true v (2 ^ n) (sym s ∙ and-right (leb n 32) b (and-left (leb n 32 && b) (leb (octetsFor (at + n)) (length out)) h))
+    bits-small =
+        ltb-true v (2 ^ n)
+        (sym s ∙ and-right (leb n 32) b (and-left (leb n 32 && b) (leb (octetsFor (at + n)) (length out)) h))
 
     pub bits-room : octetsFor (at + n) ≤ length out
-    bits-room = leb-true (octetsFor (at + n)) (length out) (and-right (leb n 32 && b) (leb (octetsFor (at + n)) (length out)) h)
+    bits-room =
+        leb-true (octetsFor (at + n)) (length out) (and-right (leb n 32 && b) (leb (octetsFor (at + n)) (length out)) h)
 
     pub bits-answer : true ≡ bitsFit (length out) at n v
     bits-answer = sym h ∙ judged

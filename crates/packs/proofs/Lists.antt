@@ -15,7 +15,8 @@ use Rattle.widths.specs.Below.{allBelow}
 use Rattle.widths.proofs.Lists.{below-wide, wide-below}
 use Rattle.packs.specs.Pack.{packFits, packed}
 
-pub pack-takes : (n : ℕ) (vs : List ℕ) (room : ℕ) → n ≤ 24 → length vs < 2 ^ 32 → Wide n vs → octetsFor (length vs * n) ≤ room → packFits n vs room ≡ true
+pub pack-takes : (n : ℕ) (vs : List ℕ) (room : ℕ) → n ≤ 24 → length vs < 2 ^ 32 → Wide n vs
+    → octetsFor (length vs * n) ≤ room → packFits n vs room ≡ true
 unfolding packFits
 pack-takes n vs room h l w r =
     rw (le-leb n 24 h, lt-ltb (length vs) (2 ^ 32) l, wide-below n vs w, le-leb (octetsFor (length vs * n)) room r) refl
@@ -54,7 +55,9 @@ module _ (n : ℕ) (vs : List ℕ) (room : ℕ) where
     pack-fits = omega (arith, pack-few both)
 
     pub pack-room : octetsFor (length vs * n) ≤ room
-    pack-room = leb-true (octetsFor (length vs * n)) room (and-right (allBelow n vs) (leb (octetsFor (length vs * n)) room) rest)
+    pack-room =
+        leb-true (octetsFor (length vs * n)) room
+        (and-right (allBelow n vs) (leb (octetsFor (length vs * n)) room) rest)
 
     pub pack-wide : Wide n vs
     pack-wide = below-wide n vs (and-left (allBelow n vs) (leb (octetsFor (length vs * n)) room) rest)

@@ -11,7 +11,8 @@ use Rattle.bits.specs.Bits.{numberAt}
 use Rattle.bits.proofs.Tests.{and-left, and-right}
 use Rattle.packs.specs.Place.{numberFits, numberPut}
 
-module _ (out : List ℕ) (p k c x j : ℕ) (a b : Bool) (o : j ≡ k - 1) (r : a ≡ leb (p + (j + c)) (length out)) (s : b ≡ ltb x (2 ^ (c * 8))) where
+module _ (out : List ℕ) (p k c x j : ℕ) (a b : Bool) (o : j ≡ k - 1) (r : a ≡ leb (p + (j + c)) (length out))
+    (s : b ≡ ltb x (2 ^ (c * 8))) where
   judged : leb c 4 && a && b ≡ numberFits out p k c x
   unfolding numberFits
   judged = ap₂ (λ (y z : Bool). leb c 4 && y && z) (r ∙ ap (λ (y : ℕ). leb (p + (y + c)) (length out)) o) s
@@ -31,7 +32,9 @@ module _ (out : List ℕ) (p k c x j : ℕ) (a b : Bool) (o : j ≡ k - 1) (r : 
 
     pub fit-left : numberAt out (p + j) c x ≡ numberPut out p k c x
     unfolding numberPut
-    fit-left = ap (λ (y : ℕ). numberAt out (p + y) c x) o ∙ ap (λ (y : Bool). cond y (numberAt out (p + (k - 1)) c x) out) fit-answer
+    fit-left =
+        ap (λ (y : ℕ). numberAt out (p + y) c x) o
+        ∙ ap (λ (y : Bool). cond y (numberAt out (p + (k - 1)) c x) out) fit-answer
 
   module _ (h : leb c 4 && a && b ≡ false) where
     pub unfit-answer : false ≡ numberFits out p k c x

@@ -42,7 +42,8 @@ module _ (x n v : ℕ) (l : n ≤ 24) (h : v < 2 ^ n) where
   in-turn R e =
       let f : n + (64 - n) ≡ 64 = omega arith in
       ap (λ (a : ℕ). a + v) shift-64
-      ∙ ap (λ (a : ℕ). a * 2 ^ n + v) (ap (λ (a : ℕ). a % 2 ^ (64 - n)) (e ∙ ap (λ (w : ℕ). R % 2 ^ w) (sym f)) ∙ mod-mod-pow R n (64 - n))
+      ∙ ap (λ (a : ℕ). a * 2 ^ n + v)
+      (ap (λ (a : ℕ). a % 2 ^ (64 - n)) (e ∙ ap (λ (w : ℕ). R % 2 ^ w) (sym f)) ∙ mod-mod-pow R n (64 - n))
       ∙ sym (ap (λ (w : ℕ). (R * 2 ^ n + v) % 2 ^ w) (sym back) ∙ mod-pow-add (R * 2 ^ n + v) (64 - n) n
       ∙ ap₂ (λ (a b : ℕ). a % 2 ^ (64 - n) * 2 ^ n + b) (high R n h) (low R n h))
 
@@ -53,7 +54,8 @@ top-32 {f} b x a t s r e h =
     let g : 64 - s + s ≡ 64 = omega arith in
     mod-mod-pow (x * 2 ^ r) 32 32 ∙ ap (λ (w : ℕ). x * 2 ^ r % 2 ^ w) (sym h) ∙ shift x s r
     ∙ ap (λ (y : ℕ). y * 2 ^ r)
-    (ap (λ (y : ℕ). y % 2 ^ s) (e ∙ ap (λ (w : ℕ). run f a (t + s) % 2 ^ w) (sym g)) ∙ mod-mod-pow (run f a (t + s)) (64 - s) s
+    (ap (λ (y : ℕ). y % 2 ^ s) (e ∙ ap (λ (w : ℕ). run f a (t + s) % 2 ^ w) (sym g))
+    ∙ mod-mod-pow (run f a (t + s)) (64 - s) s
     ∙ ap (λ (y : ℕ). y % 2 ^ s) (run-split f a t s) ∙ low (run f a t) s (run-lt b (a + t) s))
 
 pub take-runs : (f : ℕ → ℕ) (at n k c : ℕ) → k ≤ c → take k (runs f at n c) ≡ runs f at n k
@@ -109,7 +111,8 @@ module _ (n : ℕ) (vs : List ℕ) (w : Wide n vs) (l : n ≤ 24) where
 
   -- number i put
   pub over-turn : (d : List ℕ) (i : ℕ) → i < length vs
-      → numberAt (over n vs i d) (i * n / 8) 4 (run (bitsIn n (take (i + 1) vs)) (i * n / 8 * 8) 32) ≡ over n vs (i + 1) d
+      → numberAt (over n vs i d) (i * n / 8) 4 (run (bitsIn n (take (i + 1) vs)) (i * n / 8 * 8) 32)
+      ≡ over n vs (i + 1) d
   unfolding numberAt over
   over-turn d i h =
       let k = i * n / 8 in
@@ -123,11 +126,15 @@ module _ (n : ℕ) (vs : List ℕ) (w : Wide n vs) (l : n ≤ 24) where
       let z : length A + (k + 4 - c) ≡ k + 4 = ap (λ (x : ℕ). x + (k + 4 - c)) y ∙ back c (k + 4) v in
       ap₂ (λ (x y : List ℕ). x ++ y)
       (ap₂ (λ (x y : List ℕ). x ++ y)
-      (take-append-le k A (drop c d) (subst (λ (x : ℕ). k ≤ x) (sym y) (omega arith)) ∙ take-runs f 0 8 k c (omega arith)
-      ∙ runs-ext f g 0 0 8 k (λ b q. bits-first i (0 + b) (omega arith) (omega arith) ∙ sym (bits-first (i + 1) (0 + b) (omega arith) (omega (arith, next i n)))))
+      (take-append-le k A (drop c d) (subst (λ (x : ℕ). k ≤ x) (sym y) (omega arith))
+      ∙ take-runs f 0 8 k c (omega arith)
+      ∙ runs-ext f g 0 0 8 k
+      (λ b q. bits-first i (0 + b) (omega arith) (omega arith)
+      ∙ sym (bits-first (i + 1) (0 + b) (omega arith) (omega (arith, next i n)))))
       (runs-number (bitsIn-bits n (take (i + 1) vs)) (k * 8) 4 ∙ ap (λ (x : ℕ). runs g x 8 4) (sym (zero-add (k * 8))))
       ∙ sym (runs-split g 0 8 k 4))
-      (ap (λ (x : ℕ). drop x (A ++ drop c d)) (sym z) ∙ drop-append-add A (drop c d) (k + 4 - c) ∙ drop-drop (k + 4 - c) c d ∙ ap (λ (x : ℕ). drop x d) (back c (k + 4) v))
+      (ap (λ (x : ℕ). drop x (A ++ drop c d)) (sym z) ∙ drop-append-add A (drop c d) (k + 4 - c)
+      ∙ drop-drop (k + 4 - c) c d ∙ ap (λ (x : ℕ). drop x d) (back c (k + 4) v))
       ∙ ap (λ (x : ℕ). runs g 0 8 x ++ drop x d) (sym (cover-next n i))
     where
       back : (a b : ℕ) → a ≤ b → a + (b - a) ≡ b
@@ -136,7 +143,8 @@ module _ (n : ℕ) (vs : List ℕ) (w : Wide n vs) (l : n ≤ 24) where
 -- i numbers are put; of the last ones, from octet k on, the p bits are held
 abbrev pub State : List ℕ → ℕ → List ℕ → ℕ → List ℕ → ℕ → ℕ → ℕ → ℕ → Type 0
 State vs n out₀ i₀ out k p all i =
-    (length out ≡ length out₀) × (all ≡ run (bitsIn n vs) (k * 8) p % 2 ^ 64) × (k * 8 + p ≡ i * n) × Put vs n out₀ i₀ out i
+    (length out ≡ length out₀) × (all ≡ run (bitsIn n vs) (k * 8) p % 2 ^ 64) × (k * 8 + p ≡ i * n)
+    × Put vs n out₀ i₀ out i
 
 pub state-none : (vs : List ℕ) (n : ℕ) (out : List ℕ) (k i : ℕ) → k * 8 ≡ i * n → State vs n out i out k 0 0 i
 unfolding run
@@ -146,27 +154,33 @@ pub over-none : (vs : List ℕ) (n : ℕ) (d : List ℕ) → d ≡ over n vs 0 d
 unfolding over cover runs tab
 over-none vs n d = refl
 
-pub over-all : (vs : List ℕ) (n : ℕ) (d out : List ℕ) (i : ℕ) → i ≡ length vs → out ≡ over n vs i d → out ≡ over n vs (length vs) d
+pub over-all : (vs : List ℕ) (n : ℕ) (d out : List ℕ) (i : ℕ) → i ≡ length vs → out ≡ over n vs i d
+    → out ≡ over n vs (length vs) d
 over-all vs n d out i e h = h ∙ ap (λ (x : ℕ). over n vs x d) e
 
-module _ (n : ℕ) (vs : List ℕ) (w : Wide n vs) (l : n ≤ 24) (out₀ : List ℕ) (i₀ : ℕ) (out : List ℕ) (k p all i : ℕ) (s : State vs n out₀ i₀ out k p all i) (h : i < length vs) where
+module _ (n : ℕ) (vs : List ℕ) (w : Wide n vs) (l : n ≤ 24) (out₀ : List ℕ) (i₀ : ℕ) (out : List ℕ) (k p all i : ℕ)
+    (s : State vs n out₀ i₀ out k p all i) (h : i < length vs) where
   held : all * 2 ^ n % 2 ^ 64 + getD vs i 0 ≡ run (bitsIn n vs) (k * 8) (p + n) % 2 ^ 64
   held =
       in-turn all n (getD vs i 0) l (w i) (run (bitsIn n vs) (k * 8) p) (s .1)
       ∙ ap (λ (x : ℕ). x % 2 ^ 64)
       (sym (run-split (bitsIn n vs) (k * 8) p n
-      ∙ ap (λ (x : ℕ). run (bitsIn n vs) (k * 8) p * 2 ^ n + x) (ap (λ (a : ℕ). run (bitsIn n vs) a n) (s .2) ∙ run-unit n vs i (w i))))
+      ∙ ap (λ (x : ℕ). run (bitsIn n vs) (k * 8) p * 2 ^ n + x)
+      (ap (λ (a : ℕ). run (bitsIn n vs) a n) (s .2) ∙ run-unit n vs i (w i))))
 
   pub state-turn : (out' : List ℕ) → length out' ≡ length out
-      → out' ≡ numberAt out (k + p / 8) 4 ((all * 2 ^ n % 2 ^ 64 + getD vs i 0) * 2 ^ (32 - p % 8 - n) % 2 ^ 64 % 4294967296)
+      → out' ≡ numberAt out (k + p / 8) 4
+      ((all * 2 ^ n % 2 ^ 64 + getD vs i 0) * 2 ^ (32 - p % 8 - n) % 2 ^ 64 % 4294967296)
       → State vs n out₀ i₀ out' k (p + n) (all * 2 ^ n % 2 ^ 64 + getD vs i 0) (i + 1)
   state-turn out' m e =
       let o : k + p / 8 ≡ i * n / 8 = omega (arith, s .2) in (
         m ∙ s .0,
         held,
         sym (add-assoc (k * 8) p n) ∙ ap (λ (x : ℕ). x + n) (s .2) ∙ sym (next i n),
-        λ d z. e ∙ ap₂ (λ (x y : ℕ). numberAt out x 4 y) o (word-at n vs w l (all * 2 ^ n % 2 ^ 64 + getD vs i 0) k p i h (s .2) held)
-            ∙ ap (λ (x : List ℕ). numberAt x (i * n / 8) 4 (run (bitsIn n (take (i + 1) vs)) (i * n / 8 * 8) 32)) (s .3 d z) ∙ over-turn n vs w l d i h,
+        λ d z. e ∙ ap₂ (λ (x y : ℕ). numberAt out x 4 y) o
+            (word-at n vs w l (all * 2 ^ n % 2 ^ 64 + getD vs i 0) k p i h (s .2) held)
+            ∙ ap (λ (x : List ℕ). numberAt x (i * n / 8) 4 (run (bitsIn n (take (i + 1) vs)) (i * n / 8 * 8) 32))
+            (s .3 d z) ∙ over-turn n vs w l d i h,
       )
 
   pub room-four : (b : ℕ) → length vs * n / 8 + 4 ≤ b → k + p / 8 + 4 ≤ b
@@ -174,7 +188,8 @@ module _ (n : ℕ) (vs : List ℕ) (w : Wide n vs) (l : n ≤ 24) (out₀ : List
 
 -- the octets after the data put back
 pub restored : (n : ℕ) (vs d : List ℕ) → n ≤ 24 → Wide 8 d → octetsFor (length vs * n) + 4 ≤ length d
-    → numberAt (over n vs (length vs) d) (octetsFor (length vs * n)) 4 (run (bitsIn 8 d) (octetsFor (length vs * n) * 8) 32) ≡ packedInto n vs d
+    → numberAt (over n vs (length vs) d) (octetsFor (length vs * n)) 4
+    (run (bitsIn 8 d) (octetsFor (length vs * n) * 8) 32) ≡ packedInto n vs d
 unfolding numberAt over packedInto
 restored n vs d l w h =
     let m = length vs in
@@ -190,9 +205,11 @@ restored n vs d l w h =
     let z : length A + (e + 4 - c) ≡ e + 4 = ap (λ (x : ℕ). x + (e + 4 - c)) y ∙ back c (e + 4) o in
     ap₂ (λ (x y : List ℕ). x ++ y)
     (ap₂ (λ (x y : List ℕ). x ++ y)
-    (take-append-le e A (drop c d) (subst (λ (x : ℕ). e ≤ x) (sym y) u) ∙ take-runs F 0 8 e c u ∙ ap (λ (x : List ℕ). runs (bitsIn n x) 0 8 e) (take-length vs))
+    (take-append-le e A (drop c d) (subst (λ (x : ℕ). e ≤ x) (sym y) u) ∙ take-runs F 0 8 e c u
+    ∙ ap (λ (x : List ℕ). runs (bitsIn n x) 0 8 e) (take-length vs))
     (runs-number (bitsIn-bits 8 d) (e * 8) 4 ∙ four))
-    (ap (λ (x : ℕ). drop x (A ++ drop c d)) (sym z) ∙ drop-append-add A (drop c d) (e + 4 - c) ∙ drop-drop (e + 4 - c) c d ∙ ap (λ (x : ℕ). drop x d) (back c (e + 4) o) ∙ sym (drop-drop 4 e d))
+    (ap (λ (x : ℕ). drop x (A ++ drop c d)) (sym z) ∙ drop-append-add A (drop c d) (e + 4 - c)
+    ∙ drop-drop (e + 4 - c) c d ∙ ap (λ (x : ℕ). drop x d) (back c (e + 4) o) ∙ sym (drop-drop 4 e d))
     ∙ append-assoc (runs f 0 8 e) (take 4 (drop e d)) (drop 4 (drop e d))
     ∙ ap (λ (x : List ℕ). runs f 0 8 e ++ x) (take-append-drop 4 (drop e d))
   where

@@ -22,8 +22,8 @@ pub(crate) fn placed(out: &mut [u8], from: usize, n: usize, v: u32)
     store(out, from / 8, c, all);
 }
 
-// The n bits from bit place `from` on become v, and the bits after them zero to the end of the octet. Where n is over 32, v has more bits or
-// out is too short, nothing changes and the answer is false.
+// The n bits from bit place `from` on become v, and the bits after them zero to the end of the octet. Where n is over
+// 32, v has more bits or out is too short, nothing changes and the answer is false.
 pub fn put_bits(out: &mut [u8], from: u32, n: u8, v: u32) -> bool
     ensures { λ r. ⌜ r ≡ bitsFit (length (now (out .entry))) from n v ⌝ }
     ensures { λ _. ⌜ now (out .exit) ≡ putBits (now (out .entry)) from n v ⌝ }

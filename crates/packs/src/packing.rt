@@ -1,6 +1,6 @@
-// Numbers of up to 24 bits each packed one after another into octets from their start on. Up to eight bits wide, eight numbers are stored at
-// once. Wider, four octets are stored at each one's place, and the four after the data, which the last stores may touch, are read first and put
-// back.
+// Numbers of up to 24 bits each packed one after another into octets from their start on. Up to eight bits wide, eight
+// numbers are stored at once. Wider, four octets are stored at each one's place, and the four after the data, which the
+// last stores may touch, are read first and put back.
 ghost use mathlib.Core.Path.{_≡_};
 ghost use Prim.Native.Nat.{ℕ, _+_, _*_, _/_, _^_, _<_, _≤_};
 ghost use mathlib.Core.List.{List};
@@ -56,7 +56,8 @@ fn pack_rest(vs: &[u32], n: usize, out: &mut [u8], from: usize)
     requires { ⌜ length (now vs) * n < 2 ^ 64 ⌝ }
     requires { ⌜ octetsFor (length (now vs) * n) ≤ length (now out) ⌝ }
     requires { ⌜ from ≤ length (now vs) ⌝ }
-    ensures { λ _. ⌜ ((d : List ℕ) → now (out .entry) ≡ packedInto n (take from (now (vs .entry))) d → now (out .exit) ≡ packedInto n (now (vs .entry)) d) ⌝ }
+    ensures { λ _. ⌜ ((d : List ℕ) → now (out .entry) ≡ packedInto n (take from (now (vs .entry))) d → now (out .exit)
+        ≡ packedInto n (now (vs .entry)) d) ⌝ }
 {
     let mut i = from;
     let mut place = from * n;
@@ -67,8 +68,8 @@ fn pack_rest(vs: &[u32], n: usize, out: &mut [u8], from: usize)
     }
 }
 
-// Eight numbers of up to eight bits each, from number i on, as one. It multiplies by 2^n, written so that the compiler does too: a shift by
-// a width that is not known takes the machine longer.
+// Eight numbers of up to eight bits each, from number i on, as one. It multiplies by 2^n, written so that the compiler
+// does too: a shift by a width that is not known takes the machine longer.
 fn eight(vs: &[u32], i: usize, n: usize) -> u64
     requires { ⌜ n ≤ 8 ⌝ }
     requires { ⌜ ((k : ℕ) → getD (now vs) k 0 < 2 ^ n) ⌝ }
@@ -85,8 +86,8 @@ fn eight(vs: &[u32], i: usize, n: usize) -> u64
     all
 }
 
-// Numbers of up to eight bits: eight of them are n octets. While eight octets more lie in the data, so many are stored, and those past the n
-// stored over later.
+// Numbers of up to eight bits: eight of them are n octets. While eight octets more lie in the data, so many are stored,
+// and those past the n stored over later.
 fn pack_small(vs: &[u32], n: usize, out: &mut [u8])
     requires { ⌜ n ≤ 8 ⌝ }
     requires { ⌜ ((k : ℕ) → getD (now vs) k 0 < 2 ^ n) ⌝ }
@@ -140,8 +141,9 @@ fn packable(vs: &[u32], n: u8, room: usize) -> bool
     false
 }
 
-// The numbers of n bits each in vs are put one after another from the start of out, and zeros to the end of the octet. Where n is over 24, a
-// number has more bits, there are 2^32 or more of them or out is too short, nothing changes and the answer is false.
+// The numbers of n bits each in vs are put one after another from the start of out, and zeros to the end of the octet.
+// Where n is over 24, a number has more bits, there are 2^32 or more of them or out is too short, nothing changes and
+// the answer is false.
 pub fn pack(vs: &[u32], n: u8, out: &mut [u8]) -> bool
     ensures { λ r. ⌜ r ≡ packFits n (now (vs .entry)) (length (now (out .entry))) ⌝ }
     ensures { λ _. ⌜ now (out .exit) ≡ packed n (now (vs .entry)) (now (out .entry)) ⌝ }

@@ -6,8 +6,8 @@ use crate::words::store;
 use octets::offset;
 use widths::below;
 
-// The number x in c octets from octet k on, counted from 1, of what starts at place p. Where c is over 4, x has more bits or out is too short,
-// nothing changes and the answer is false.
+// The number x in c octets from octet k on, counted from 1, of what starts at place p. Where c is over 4, x has more
+// bits or out is too short, nothing changes and the answer is false.
 pub fn put_number(out: &mut [u8], p: usize, k: u8, c: u8, x: u32) -> bool
     ensures { λ r. ⌜ r ≡ numberFits (now (out .entry)) p k c x ⌝ }
     ensures { λ _. ⌜ now (out .exit) ≡ numberPut (now (out .entry)) p k c x ⌝ }

@@ -1,2 +1,3 @@
--- The records of the C face for what is said of a bitmap in force and of a point: which number of an answer each field is.
+-- The records of the C face for what is said of a bitmap in force and of a point: which number of an answer each field
+-- is.
 pub mod Records

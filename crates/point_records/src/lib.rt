@@ -1,10 +1,11 @@
-// The records that cross to C of a bitmap in force and of a point's data number, by value and in its layout, and how each is made of an answer.
+// The records that cross to C of a bitmap in force and of a point's data number, by value and in its layout, and how
+// each is made of an answer.
 ghost use mathlib.Core.Path.{_≡_};
-ghost use Rattle.points.specs.Told.{told};
+ghost use Rattle.data_numbers.specs.Told.{told};
 ghost use Rattle.records.specs.Records.{partBy};
 ghost use Rattle.point_records.specs.Records.{dataRecord};
-use parts::Force;
-use points::Numbered;
+use data_numbers::Numbered;
+use handed_back::Force;
 use records::PartRecord;
 
 #[repr(C)]
@@ -13,6 +14,7 @@ pub struct DataRecord {
     pub data_number: u32,
 }
 
+// The part that the bitmap in force is: of the message, or of the lent store.
 pub fn force_record(f: Force) -> PartRecord
     ensures { λ r. ⌜ r ≡ partBy (f .stored) (f .part) ⌝ }
 {
@@ -27,6 +29,7 @@ pub fn force_record(f: Force) -> PartRecord
     }
 }
 
+// A data number, or why there is none.
 pub fn data_record(n: Numbered) -> DataRecord
     ensures { λ r. ⌜ r ≡ dataRecord (told n) ⌝ }
 {

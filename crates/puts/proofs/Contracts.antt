@@ -20,7 +20,8 @@ use Rattle.bits.proofs.Tests.{and-left, and-right}
 use Rattle.octets.proofs.Signs.{spelled-lt}
 
 -- `put_octet` to `put_four`, then `octet` to `four`
-pub put-read : (out : List ℕ) (p k c x : ℕ) → putFits out p k c x ≡ true → run (bitsIn 8 (putNumber out p k c x)) ((p + (k - 1)) * 8) (c * 8) ≡ x
+pub put-read : (out : List ℕ) (p k c x : ℕ) → putFits out p k c x ≡ true
+    → run (bitsIn 8 (putNumber out p k c x)) ((p + (k - 1)) * 8) (c * 8) ≡ x
 unfolding putNumber putFits
 put-read out p k c x h =
     let r = leb-true (p + (k - 1 + c)) (length out) (and-left (roomAt out p k c) (ltb x (2 ^ (c * 8))) h) in
@@ -29,7 +30,8 @@ put-read out p k c x h =
     ∙ number-back out (p + (k - 1)) c x (omega arith) b
 
 -- a put of the field that follows what is written
-module _ (done s : List ℕ) (p k c x : ℕ) (e : length done ≡ p + (k - 1)) (r : p + (k - 1 + c) ≤ length s) (b : x < 2 ^ (c * 8)) where
+module _ (done s : List ℕ) (p k c x : ℕ) (e : length done ≡ p + (k - 1)) (r : p + (k - 1 + c) ≤ length s)
+    (b : x < 2 ^ (c * 8)) where
   pub lay-fits : putFits (done ++ drop (length done) s) p k c x ≡ true
   unfolding putFits
   lay-fits =
@@ -39,7 +41,8 @@ module _ (done s : List ℕ) (p k c x : ℕ) (e : length done ≡ p + (k - 1)) (
   pub lay-put : putNumber (done ++ drop (length done) s) p k c x ≡ (done ++ octets c x) ++ drop (length done + c) s
   unfolding putNumber
   lay-put =
-      ap (λ (y : Bool). cond y (numberAt (done ++ drop (length done) s) (p + (k - 1)) c x) (done ++ drop (length done) s)) lay-fits
+      ap (λ (y : Bool). cond y (numberAt (done ++ drop (length done) s) (p + (k - 1)) c x)
+      (done ++ drop (length done) s)) lay-fits
       ∙ ap (λ (y : ℕ). numberAt (done ++ drop (length done) s) y c x) (sym e) ∙ lay done s (length done) c x refl
 
 -- a sign and a magnitude, spelled and read; and read and spelled, but for minus zero
@@ -68,6 +71,7 @@ signed-read out p k c z l h =
     let r = leb-true (p + (k - 1 + c)) (length out) (and-left (roomAt out p k c) (magnitudeFits c z) h) in
     let b = ltb-true (natAbs (z .value)) (sign c) (and-right (roomAt out p k c) (magnitudeFits c z) h) in
     ap (signed c)
-    (ap (λ (y : Bool). run (bitsIn 8 (cond y (numberAt out (p + (k - 1)) c (spelled c z)) out)) ((p + (k - 1)) * 8) (c * 8)) h
+    (ap (λ (y : Bool). run (bitsIn 8 (cond y (numberAt out (p + (k - 1)) c (spelled c z)) out)) ((p + (k - 1)) * 8)
+    (c * 8)) h
     ∙ number-back out (p + (k - 1)) c (spelled c z) (omega arith) (spelled-lt c (z .value) l b))
     ∙ signed-spelled c (z .value) b

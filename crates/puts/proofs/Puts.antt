@@ -54,7 +54,9 @@ module _ (out : List ℕ) (p k c half : ℕ) (z : ℤ) (e : half ≡ sign c) whe
   module _ (m : half ≤ natAbs z) where
     pub unsigned-answer : false ≡ signedFits out p k c (plain z)
     unfolding signedFits
-    unsigned-answer = sym (ap (λ (y : Bool). roomAt out p k c && y) (le-ltb (natAbs z) (sign c) (subst (λ (y : ℕ). y ≤ natAbs z) e m)) ∙ and-false (roomAt out p k c))
+    unsigned-answer =
+        sym (ap (λ (y : Bool). roomAt out p k c && y) (le-ltb (natAbs z) (sign c) (subst (λ (y : ℕ). y ≤ natAbs z) e m))
+        ∙ and-false (roomAt out p k c))
       where
         and-false : (b : Bool) → b && false ≡ false
         and-false true = refl

@@ -1,5 +1,6 @@
-// Numbers of one to four octets, high octet first, and signed fields of two and three, put into lent octets at octet k of the section at place
-// p. Every public function is total: a put that does not fit, by room or by its number, changes nothing and answers false.
+// Numbers of one to four octets, high octet first, and signed fields of two and three, put into lent octets at octet k
+// of the section at place p. Every public function is total: a put that does not fit, by room or by its number, changes
+// nothing and answers false.
 ghost use mathlib.Core.Path.{_≡_};
 ghost use mathlib.Core.Bool.{cond};
 ghost use Prim.Native.Nat.{_+_, _<_, _≤_};
@@ -61,7 +62,8 @@ fn small(half: u32, z: i32) -> bool
     (-h < z) & (z < h)
 }
 
-// The number that stands for z, of a magnitude below half, where the sign bit is worth half: written back from the sign.
+// The number that stands for z, of a magnitude below half, where the sign bit is worth half: written back from the
+// sign.
 fn spell(half: u32, z: i32) -> u32
     requires { ⌜ half ≤ 8388608 ⌝ }
     requires { ⌜ natAbs z < half ⌝ }

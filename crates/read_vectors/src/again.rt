@@ -68,6 +68,7 @@ fn own_grid(h: Header) -> Found {
     Found::Given(grid)
 }
 
+// What was chosen of the message: its grid, bitmap and packing.
 fn own_form(h: Header) -> Form {
     let bitmap = h.bitmap;
     let packing = h.packing;
@@ -78,6 +79,7 @@ fn own_form(h: Header) -> Form {
     }
 }
 
+// Whether what was written is the message, or the number that refused it.
 fn tell(w: Written, s: &[u8], out: &[u8]) {
     if w.refusal.number == 0 {
         compare(s, octets_part(out, 0, w.len as usize));
@@ -99,7 +101,7 @@ fn written(
 ) -> Written {
     let n = h.points as usize;
     writer::write(
-        parts::section(s, lent, store, 1),
+        handed_back::section(s, lent, store, 1),
         own_form(h),
         h.scale,
         lent,

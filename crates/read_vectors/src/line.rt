@@ -1,8 +1,9 @@
 // What is printed of an answer, one space before each thing.
 //
-// A refusal: its number; `zeros` where all else is zero; `kept` where the lists are as they were. An acceptance: 0; points, present, columns,
-// rows; D, E, R, N, flags; the bitmap's kind; year, month, day, hour, minute; La1, Lo1, resolution flags, La2, Lo2, Di, Dj, scanning flags;
-// row and column of the first two points; the sum of values and marks; `kept` where the elements after n are as they were.
+// A refusal: its number; `zeros` where all else is zero; `kept` where the lists are as they were. An acceptance: 0;
+// points, present, columns, rows; D, E, R, N, flags; the bitmap's kind; year, month, day, hour, minute; La1, Lo1,
+// resolution flags, La2, Lo2, Di, Dj, scanning flags; row and column of the first two points; the sum of values and
+// marks; `kept` where the elements after n are as they were.
 use crate::lists::marks_kept;
 use crate::lists::summed;
 use crate::lists::values_kept;
@@ -19,24 +20,29 @@ use rules::Part;
 use rules::Shape;
 use rules::Signed;
 
+// A word.
 pub(crate) fn word(text: &[u8]) {
     io::write_all(STDOUT_FILENO, b" ");
     io::write_all(STDOUT_FILENO, text);
 }
 
+// A number in decimal digits.
 pub(crate) fn number(n: u64) {
     io::write_all(STDOUT_FILENO, b" ");
     io::print_decimal(STDOUT_FILENO, n);
 }
 
+// The same of 32 bits.
 pub(crate) fn whole(n: u32) {
     number(n as u64);
 }
 
+// The same of an octet.
 fn octet(n: u8) {
     number(n as u64);
 }
 
+// A word of 32 bits as eight hexadecimal digits.
 fn hex(n: u32) {
     io::write_all(STDOUT_FILENO, b" ");
     io::print_hex(STDOUT_FILENO, n as u64, 8);
@@ -55,6 +61,7 @@ fn signed(z: Signed) {
     }
 }
 
+// The bitmap's kind, and a stored one's number.
 fn kind(bitmap: Bitmap) {
     match bitmap {
         Bitmap::Without => word(b"without"),
@@ -66,6 +73,7 @@ fn kind(bitmap: Bitmap) {
     }
 }
 
+// Year, month, day, hour and minute.
 fn moment(t: Moment) {
     number(t.year as u64);
     number(t.month as u64);
@@ -74,6 +82,7 @@ fn moment(t: Moment) {
     number(t.minute as u64);
 }
 
+// Corners, resolution flags and steps of a grid.
 fn corners(a: Geometry) {
     signed(a.la1);
     signed(a.lo1);
@@ -84,6 +93,7 @@ fn corners(a: Geometry) {
     number(a.dj as u64);
 }
 
+// Row and column of point k, or `off`.
 fn spot(g: Shape, k: u32) {
     let s = spot_of(g, GridPoint(k));
     match s {
@@ -95,6 +105,7 @@ fn spot(g: Shape, k: u32) {
     }
 }
 
+// `kept` where the elements from n on are as they were.
 fn lists(values: &[u32], marks: &[u8], n: usize) {
     if values_kept(values, n) & marks_kept(marks, n) {
         return word(b"kept");
@@ -111,6 +122,7 @@ fn sum(values: &[u32], marks: &[u8], n: usize) {
     }
 }
 
+// All of an accepted answer.
 fn taken(h: Header, values: &[u32], marks: &[u8]) {
     let g = h.grid.shape;
     let bitmap = h.bitmap;
@@ -134,18 +146,22 @@ fn taken(h: Header, values: &[u32], marks: &[u8]) {
     lists(values, marks, n);
 }
 
+// Whether a part is zeros.
 fn no_part(p: Part) -> bool {
     (p.start == 0) & (p.len == 0)
 }
 
+// Whether a time is zeros.
 fn no_time(t: Moment) -> bool {
     (t.year == 0) & (t.month == 0) & (t.day == 0) & (t.hour == 0) & (t.minute == 0)
 }
 
+// Whether a shape is zeros.
 fn no_shape(g: Shape) -> bool {
     (g.ni == 0) & (g.nj == 0) & (g.scan == 0)
 }
 
+// Whether a geometry is zeros.
 fn no_geometry(a: Geometry) -> bool {
     (a.la1.value == 0)
         & (a.lo1.value == 0)
@@ -156,10 +172,12 @@ fn no_geometry(a: Geometry) -> bool {
         & (a.dj == 0)
 }
 
+// Whether a grid is zeros.
 fn no_grid(g: Grid) -> bool {
     no_shape(g.shape) & no_geometry(g.geometry)
 }
 
+// Whether there is no bitmap.
 fn no_bitmap(bitmap: Bitmap) -> bool {
     match bitmap {
         Bitmap::Without => true,
@@ -188,6 +206,7 @@ fn zeros(h: Header) -> bool {
         & (h.scale.r == 0)
 }
 
+// All of a refused answer but its number.
 fn refused(h: Header, values: &[u32], marks: &[u8]) {
     if zeros(h) {
         word(b"zeros");
@@ -195,6 +214,7 @@ fn refused(h: Header, values: &[u32], marks: &[u8]) {
     lists(values, marks, 0);
 }
 
+// The whole answer: its number, and what goes with it.
 pub(crate) fn answer(h: Header, values: &[u32], marks: &[u8]) {
     number(h.refusal.number as u64);
     if h.refusal.number == 0 {

@@ -1,4 +1,5 @@
-// The lent lists: what they hold before a reading, whether elements still hold it, and one number for all that was read.
+// The lent lists: what they hold before a reading, whether elements still hold it, and one number for all that was
+// read.
 ghost use Prim.Native.Nat.{_≤_};
 ghost use lib.ListN.{length};
 
@@ -12,6 +13,7 @@ fn mark_before(i: usize) -> u8 {
     2 + (i % 250) as u8
 }
 
+// Every value becomes what it holds before a reading.
 pub(crate) fn fill_values(values: &mut [u32]) {
     let mut i: usize = 0;
     while i < values.len() {
@@ -20,6 +22,7 @@ pub(crate) fn fill_values(values: &mut [u32]) {
     }
 }
 
+// Every mark becomes what it holds before a reading.
 pub(crate) fn fill_marks(marks: &mut [u8]) {
     let mut i: usize = 0;
     while i < marks.len() {
@@ -57,7 +60,8 @@ fn with_point(sum: u32, value: u32, mark: u8) -> u32 {
     ((sum as u64 * 16777619 + value as u64 * 2 + mark as u64) % 4294967296) as u32
 }
 
-// The first n values and marks as one number: from 1 on, 16777619 times the sum, and 2 times the value, and the mark, below 2^32.
+// The first n values and marks as one number: from 1 on, 16777619 times the sum, and 2 times the value, and the mark,
+// below 2^32.
 pub(crate) fn summed(values: &[u32], marks: &[u8], n: usize) -> u32
     requires { ⌜ n ≤ length (now values) ⌝ }
     requires { ⌜ n ≤ length (now marks) ⌝ }

@@ -1,9 +1,10 @@
-// The reader on each vector file that an argument names, and a line for each: the name, the reply, what the message says, what became of the
-// lent lists, and whether writing what was read gives the message back.
+// The reader on each vector file that an argument names, and a line for each: the name, the reply, what the message
+// says, what became of the lent lists, and whether writing what was read gives the message back.
 //
-// A vector file has octets 1-2 the lent bitmap's number, 3-5 how many octets it has, 6-8 how many octets the message has, 9-11 how many of
-// them stand first in the file, 12-14 the place from which on the others stand there, 15-17 the room for values, 18-20 the room for marks;
-// then the lent bitmap, the message's first octets and its last ones. Those in between are zero, so a long message can be a small file.
+// A vector file has octets 1-2 the lent bitmap's number, 3-5 how many octets it has, 6-8 how many octets the message
+// has, 9-11 how many of them stand first in the file, 12-14 the place from which on the others stand there, 15-17 the
+// room for values, 18-20 the room for marks; then the lent bitmap, the message's first octets and its last ones. Those
+// in between are zero, so a long message can be a small file.
 mod again; // again.rt: what was read, written again
 mod line; // line.rt: what is printed
 mod lists; // lists.rt: what the lent lists hold before and after
@@ -16,8 +17,8 @@ use rules::Header;
 
 const HEAD: usize = 20;
 
-// The room of this program's own lists, enough for its vectors: octets of a message, octets of a lent bitmap, points. The codec's bounds are
-// others: where they grow, the stack that this program takes does not.
+// The room of this program's own lists, enough for its vectors: octets of a message, octets of a lent bitmap, points.
+// The codec's bounds are others: where they grow, the stack that this program takes does not.
 pub(crate) const MESSAGE: usize = 262145;
 
 const STORE: usize = 8193;
@@ -66,6 +67,7 @@ fn judge_lists(
     }
 }
 
+// The same, the message and the lent bitmap cut to their lengths.
 fn judge_octets(s: &[u8], len: usize, number: u16, store: &[u8], held: usize, v: usize, m: usize) {
     let mut values = [0u32; POINTS];
     let mut marks = [0u8; POINTS];
@@ -84,10 +86,12 @@ fn judge_octets(s: &[u8], len: usize, number: u16, store: &[u8], held: usize, v:
     }
 }
 
+// A length of three octets, from octet k of the head on.
 fn size(head: &[u8], k: u8) -> usize {
     octets::three(head, 0, k) as usize
 }
 
+// The message read from the file, and judged.
 fn run_message(fd: i32, head: &[u8], store: &[u8], held: usize) {
     let mut message = [0u8; MESSAGE];
     let len = size(head, 6);
@@ -104,6 +108,7 @@ fn run_message(fd: i32, head: &[u8], store: &[u8], held: usize) {
     );
 }
 
+// The lent bitmap read from the file, and then the message.
 fn run_store(fd: i32, head: &[u8]) {
     let mut store = [0u8; STORE];
     let held = size(head, 3);
@@ -111,12 +116,14 @@ fn run_store(fd: i32, head: &[u8]) {
     run_message(fd, head, &store, held);
 }
 
+// One vector: its head, and then what it announces.
 fn run_vector(fd: i32) {
     let mut head = [0u8; HEAD];
     load(fd, &mut head, 0, HEAD);
     run_store(fd, &head);
 }
 
+// The vector file that argument i names, a line.
 fn open_vector(i: usize) {
     let mut path = io::buffer();
     let n = os::arg(i, &mut path);
@@ -131,6 +138,7 @@ fn open_vector(i: usize) {
     libc::close(fd);
 }
 
+// Every vector file that an argument names.
 fn main() {
     let count = os::arg_count();
     let mut i: usize = 1;

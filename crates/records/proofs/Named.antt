@@ -4,13 +4,15 @@ use mathlib.Core.Path.{_≡_, refl, sym, ap, _∙_}
 use mathlib.Core.Bool.{Bool, true, false, _||_}
 use native.Mathlib.Omega.{arith}
 use borrow.Author.Tests.{ne-eqb}
-use Rattle.rules.specs.declared.{Grid.Grid, Found.Found, Found.the-variants.Nothing, Found.the-variants.Given, Bitmap.the-variants.Without, Bitmap.the-variants.Carried, Bitmap.the-variants.Stored}
+use Rattle.rules.specs.declared.{Grid.Grid, Found.Found, Found.the-variants.Nothing, Found.the-variants.Given}
+use Rattle.rules.specs.declared.{Bitmap.the-variants.Without, Bitmap.the-variants.Carried, Bitmap.the-variants.Stored}
 use Rattle.rules.specs.Table.{anyOf, orAll}
 use Rattle.rules.specs.Grid.{noGrid, theGrid, gridFaults}
 use Rattle.rules.specs.Bitmap.{lentFaults}
 use Rattle.rules.specs.Writing.{storedFaults}
 use Rattle.records.specs.declared.{GridRecord.GridRecord}
-use Rattle.records.specs.Forms.{gridBack, gridBy, bitmapBy, UnknownGrid, UnknownBitmap, GridReturns, BitmapReturns}
+use Rattle.records.specs.Forms.{gridBack, gridBy, bitmapBy, UnknownGrid, UnknownBitmap, GridReturns}
+use Rattle.records.specs.Forms.{BitmapReturns}
 
 module _ (kind : ℕ) (g : GridRecord) where
   pub grid-none : kind ≡ 0 → Nothing ≡ gridBy kind g

@@ -1,12 +1,14 @@
--- The records that come in from C. Every number in them means something: a kind that has no name stands for a part that document 01 refuses, in the
--- place of its order where that part is judged.
+-- The records that come in from C. Every number in them means something: a kind that has no name stands for a part that
+-- document 01 refuses, in the place of its order where that part is judged.
 use Prim.Native.Nat.{ℕ, _<_}
 use mathlib.Core.Path.{_≡_}
 use mathlib.Core.Bool.{true, cond}
 use mathlib.Core.List.{List}
 use lib.Dec.{eqb}
 use lib.IntN.{ℤ}
-use Rattle.rules.specs.declared.{Grid.Grid, Found.Found, Found.the-variants.Nothing, Found.the-variants.Given, Bitmap.Bitmap, Bitmap.the-variants.Without, Bitmap.the-variants.Carried, Bitmap.the-variants.Stored, Form.Form, Scale.Scale}
+use Rattle.rules.specs.declared.{Grid.Grid, Found.Found, Found.the-variants.Nothing, Found.the-variants.Given}
+use Rattle.rules.specs.declared.{Bitmap.Bitmap, Bitmap.the-variants.Without, Bitmap.the-variants.Carried}
+use Rattle.rules.specs.declared.{Bitmap.the-variants.Stored, Form.Form, Scale.Scale}
 use Rattle.rules.specs.Numbers.{plain}
 use Rattle.rules.specs.Table.{anyOf}
 use Rattle.rules.specs.Grid.{noGrid, theGrid, gridFaults}
@@ -28,7 +30,8 @@ gridBy kind g = cond (eqb kind 0) Nothing (cond (eqb kind 1) (Given (gridBack g)
 
 -- 0 none, 1 carried, 2 the stored one of a number, any other number the stored one of number 0, which 10 refuses
 unfoldable pub bitmapBy : ℕ → ℕ → Bitmap
-bitmapBy kind number = cond (eqb kind 0) Without (cond (eqb kind 1) Carried (cond (eqb kind 2) (Stored number) (Stored 0)))
+bitmapBy kind number =
+    cond (eqb kind 0) Without (cond (eqb kind 1) Carried (cond (eqb kind 2) (Stored number) (Stored 0)))
 
 abbrev pub formBy : FormRecord → Form
 formBy f = record { grid = gridBy (f .given) (f .grid); bitmap = bitmapBy (f .bitmap) (f .«bitmap_number»); packing = record { flags = f .«packing_flags»; bits = f .bits } }
@@ -42,7 +45,9 @@ abbrev pub UnknownGrid : Type 0
 UnknownGrid = (kind : ℕ) (g : GridRecord) → 1 < kind → anyOf (gridFaults (theGrid (gridBy kind g))) ≡ true
 
 abbrev pub UnknownBitmap : Type 0
-UnknownBitmap = (kind number : ℕ) (lent : Lent) (values marks : List ℕ) (n : ℕ) → 2 < kind → anyOf (storedFaults (bitmapBy kind number) lent values marks n) ≡ true
+UnknownBitmap =
+    (kind number : ℕ) (lent : Lent) (values marks : List ℕ) (n : ℕ) → 2 < kind
+    → anyOf (storedFaults (bitmapBy kind number) lent values marks n) ≡ true
 
 -- what goes out comes back: a header's grid and bitmap may be put into a form
 abbrev pub GridReturns : Type 0

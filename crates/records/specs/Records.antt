@@ -1,9 +1,14 @@
--- The records that the C face hands out: each field as a number of the answer in `rules`. The answer to a refusal has zero in every field but
--- its reply, and so has its record.
+-- The records that the C face hands out: each field as a number of the answer in `rules`. The answer to a refusal has
+-- zero in every field but its reply, and so has its record.
 use Prim.Native.Nat.{ℕ}
 use mathlib.Core.Bool.{Bool, false, cond}
-use Rattle.rules.specs.declared.{Refusal.Refusal, Written.Written, Display.Display, Part.Part, Grid.Grid, Bitmap.Bitmap, Bitmap.the-variants.Without, Bitmap.the-variants.Carried, Bitmap.the-variants.Stored, Header.Header, Charted.Charted, Charted.the-variants.On, Charted.the-variants.Off, Pointed.Pointed, Pointed.the-variants.At, Pointed.the-variants.Off as Nowhere}
-use Rattle.records.specs.declared.{PartRecord.PartRecord, GridRecord.GridRecord, HeaderRecord.HeaderRecord, PlaceRecord.PlaceRecord, PointRecord.PointRecord, DisplayRecord.DisplayRecord, WrittenRecord.WrittenRecord, CheckRecord.CheckRecord}
+use Rattle.rules.specs.declared.{Refusal.Refusal, Written.Written, Display.Display, Part.Part, Grid.Grid, Bitmap.Bitmap}
+use Rattle.rules.specs.declared.{Bitmap.the-variants.Without, Bitmap.the-variants.Carried, Bitmap.the-variants.Stored}
+use Rattle.rules.specs.declared.{Header.Header, Charted.Charted, Charted.the-variants.On, Charted.the-variants.Off}
+use Rattle.rules.specs.declared.{Pointed.Pointed, Pointed.the-variants.At, Pointed.the-variants.Off as Nowhere}
+use Rattle.records.specs.declared.{PartRecord.PartRecord, GridRecord.GridRecord, HeaderRecord.HeaderRecord}
+use Rattle.records.specs.declared.{PlaceRecord.PlaceRecord, PointRecord.PointRecord, DisplayRecord.DisplayRecord}
+use Rattle.records.specs.declared.{WrittenRecord.WrittenRecord, CheckRecord.CheckRecord}
 
 -- a bitmap's kind and, where it is a stored one, its number
 abbrev pub bitmapKind : Bitmap → ℕ

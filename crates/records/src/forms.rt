@@ -1,5 +1,5 @@
-// The record that comes in from C: what writer and packer are to choose. Any numbers in it stand for a form; a kind that has no name for one that the
-// writer refuses.
+// The record that comes in from C: what writer and packer are to choose. Any numbers in it stand for a form; a kind
+// that has no name for one that the writer refuses.
 ghost use mathlib.Core.Path.{_≡_};
 ghost use Rattle.records.specs.Forms.{gridBack, gridBy, bitmapBy, formBy, scaleBy};
 use crate::GridRecord;
@@ -23,6 +23,7 @@ pub struct FormRecord {
     pub bits: u8,
 }
 
+// The grid that a record stands for.
 fn grid_back(g: GridRecord) -> Grid
     ensures { λ r. ⌜ r ≡ gridBack g ⌝ }
 {
@@ -44,6 +45,7 @@ fn grid_back(g: GridRecord) -> Grid
     }
 }
 
+// The grid given, by its kind: 0 none, 1 this one; another number is a grid that 9 refuses.
 fn grid_by(kind: u32, g: GridRecord) -> Found
     ensures { λ r. ⌜ r ≡ gridBy kind g ⌝ }
 {
@@ -56,6 +58,7 @@ fn grid_by(kind: u32, g: GridRecord) -> Found
     Found::Given(grid::the_grid(Found::Nothing))
 }
 
+// The bitmap by its kind: another number than 0, 1 and 2 is one that 10 refuses.
 fn bitmap_by(kind: u32, number: u16) -> Bitmap
     ensures { λ r. ⌜ r ≡ bitmapBy kind number ⌝ }
 {
@@ -71,6 +74,7 @@ fn bitmap_by(kind: u32, number: u16) -> Bitmap
     Bitmap::Stored(0)
 }
 
+// What a record says that the caller chooses.
 pub fn form_by(f: FormRecord) -> Form
     ensures { λ r. ⌜ r ≡ formBy f ⌝ }
 {

@@ -1,7 +1,8 @@
-// The records that cross to C, by value and in its layout: those that go out, and how each is made of an answer; and, in forms.rt, the one that
-// comes in.
+// The records that cross to C, by value and in its layout: those that go out, and how each is made of an answer; and,
+// in forms.rt, the one that comes in.
 ghost use mathlib.Core.Path.{_≡_};
-ghost use Rattle.records.specs.Records.{bitmapKind, bitmapNumber, partRecord, gridRecord, headerRecord, placeRecord, pointRecord, displayRecord, writtenRecord, checkRecord};
+ghost use Rattle.records.specs.Records.{bitmapKind, bitmapNumber, partRecord, gridRecord, headerRecord};
+ghost use Rattle.records.specs.Records.{placeRecord, pointRecord, displayRecord, writtenRecord, checkRecord};
 
 mod forms; // forms.rt: the record that comes in
 
@@ -96,6 +97,7 @@ pub struct CheckRecord {
     pub reply: u32,
 }
 
+// A bitmap's kind as a number.
 fn bitmap_kind(bitmap: Bitmap) -> u32
     ensures { λ r. ⌜ r ≡ bitmapKind bitmap ⌝ }
 {
@@ -106,6 +108,7 @@ fn bitmap_kind(bitmap: Bitmap) -> u32
     }
 }
 
+// A stored bitmap's number, and 0 for the other kinds.
 fn bitmap_number(bitmap: Bitmap) -> u16
     ensures { λ r. ⌜ r ≡ bitmapNumber bitmap ⌝ }
 {
@@ -116,12 +119,14 @@ fn bitmap_number(bitmap: Bitmap) -> u16
     }
 }
 
+// A signed number without its sign bit.
 fn value(z: Signed) -> i32
     ensures { λ r. ⌜ r ≡ z .value ⌝ }
 {
     z.value
 }
 
+// A part of the message.
 pub fn part_record(p: Part) -> PartRecord
     ensures { λ r. ⌜ r ≡ partRecord p ⌝ }
 {
@@ -132,6 +137,7 @@ pub fn part_record(p: Part) -> PartRecord
     }
 }
 
+// A grid, field by field.
 fn grid_record(g: Grid) -> GridRecord
     ensures { λ r. ⌜ r ≡ gridRecord g ⌝ }
 {
@@ -150,6 +156,7 @@ fn grid_record(g: Grid) -> GridRecord
     }
 }
 
+// What a message says, field by field.
 pub fn header_record(h: Header) -> HeaderRecord
     ensures { λ r. ⌜ r ≡ headerRecord h ⌝ }
 {
@@ -180,6 +187,7 @@ pub fn header_record(h: Header) -> HeaderRecord
     }
 }
 
+// A place of the chart, or that there is none.
 pub fn place_record(charted: Charted) -> PlaceRecord
     ensures { λ r. ⌜ r ≡ placeRecord charted ⌝ }
 {
@@ -197,6 +205,7 @@ pub fn place_record(charted: Charted) -> PlaceRecord
     }
 }
 
+// A grid point, or that there is none.
 pub fn point_record(pointed: Pointed) -> PointRecord
     ensures { λ r. ⌜ r ≡ pointRecord pointed ⌝ }
 {
@@ -206,6 +215,7 @@ pub fn point_record(pointed: Pointed) -> PointRecord
     }
 }
 
+// R and 2^E with their reply.
 pub fn display_record(d: Display) -> DisplayRecord
     ensures { λ r. ⌜ r ≡ displayRecord d ⌝ }
 {
@@ -216,6 +226,7 @@ pub fn display_record(d: Display) -> DisplayRecord
     }
 }
 
+// The reply and the length of what was written.
 pub fn written_record(w: Written) -> WrittenRecord
     ensures { λ r. ⌜ r ≡ writtenRecord w ⌝ }
 {
@@ -225,6 +236,7 @@ pub fn written_record(w: Written) -> WrittenRecord
     }
 }
 
+// The check's reply.
 pub fn check_record(refusal: Refusal) -> CheckRecord
     ensures { λ r. ⌜ r ≡ checkRecord refusal ⌝ }
 {

@@ -1,4 +1,5 @@
--- A table of refusals read in stages: the rows that gave nothing may be left behind, and a row that gave something ends it.
+-- A table of refusals read in stages: the rows that gave nothing may be left behind, and a row that gave something ends
+-- it.
 use mathlib.Core.Path.{_≡_, refl, sym, ap, _∙_}
 use mathlib.Core.Bool.{true, false, cond}
 use mathlib.Core.List.{List, [], _∷_, _++_}
@@ -21,7 +22,8 @@ above : (n : ℕ) → T (ltb 0 n) → n ≡ 0 → ⊥
 above n h e = let l = ltb→lt 0 n h in omega arith
 
 -- what follows the rows is asked for where they accept
-pub staged : (rows : List Row) (x : Refusal) → Numbered rows → firstOr rows x ≡ cond (accepted (first rows)) x (first rows)
+pub staged : (rows : List Row) (x : Refusal) → Numbered rows
+    → firstOr rows x ≡ cond (accepted (first rows)) x (first rows)
 unfolding first firstOr
 staged [] x h = refl
 staged (given r true ∷ rows) x h = let e : eqb (r .number) 0 ≡ false = ne-eqb (r .number) 0 (above (r .number) (h .0)) in rw e

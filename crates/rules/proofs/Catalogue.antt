@@ -1,4 +1,5 @@
--- The catalogue's own sense, computed over the whole table: its corners, counts and steps agree, no row is refused, no number stands twice.
+-- The catalogue's own sense, computed over the whole table: its corners, counts and steps agree, no row is refused, no
+-- number stands twice.
 use mathlib.Core.Path.{_≡_, refl}
 use mathlib.Core.Bool.{Bool, true, not, _&&_}
 use mathlib.Core.List.{[], _∷_, map}

@@ -1,11 +1,13 @@
--- What is answered where there is nothing to answer: no bitmap, a bitmap that is lent, an absent section, a refused message, a place outside the chart, R of zero.
+-- What is answered where there is nothing to answer: no bitmap, a bitmap that is lent, an absent section, a refused
+-- message, a place outside the chart, R of zero.
 use mathlib.Core.Path.{_≡_, refl}
 use mathlib.Core.List.{List, [], _∷_, _++_, map}
 use mathlib.Core.Bool.{true, false}
 use Prim.Native.Nat.{ℕ}
 use lib.ListN.{set, take, drop}
 use lib.Ieee.{binary64, ofBits}
-use Rattle.rules.specs.declared.{Shape.Shape, Charted.the-variants.On, Charted.the-variants.Off, Pointed.the-variants.At, Pointed.the-variants.Off as Nowhere}
+use Rattle.rules.specs.declared.{Shape.Shape, Charted.the-variants.On, Charted.the-variants.Off}
+use Rattle.rules.specs.declared.{Pointed.the-variants.At, Pointed.the-variants.Off as Nowhere}
 use Rattle.rules.specs.Chart.{charted, pointed}
 use Rattle.rules.specs.Points.{numbered, outside}
 use Rattle.rules.specs.Reading.{bitmapOf, sectionOf, numberingOf}

@@ -14,7 +14,8 @@ data Case : Type 0 where
   reference : ℕ → ℤ → Case
   value : ℕ → ℕ → ℕ → Case
 
--- what the definitions say of it. R is that number and no fraction more: its size, counted in parts of 1 / 16^70, is as many wholes
+-- what the definitions say of it. R is that number and no fraction more: its size, counted in parts of 1 / 16^70, is as
+-- many wholes
 abbrev Holds : Case → Type 0
 Holds (decimal v d) = signed 2 v .value ≡ d
 Holds (reference v r) = (wholeOf v ≡ r) × (sizeOf v ≡ natAbs r * unit)
@@ -38,4 +39,16 @@ marked : Each
     ∷ value 4 3 1
     ∷ [])
 unfolding computes
-marked = (refl, (refl, (refl, ((refl, refl), ((refl, refl), ((refl, refl), ((refl, refl), ((refl, refl), (refl, (refl, (refl, tt)))))))))))
+marked = (
+  refl,
+  (
+    refl,
+    (
+      refl,
+      (
+        (refl, refl),
+        ((refl, refl), ((refl, refl), ((refl, refl), ((refl, refl), (refl, (refl, (refl, tt))))))),
+      ),
+    ),
+  ),
+)

@@ -23,7 +23,8 @@ absents : (headerOf specimen nothing .scale .r ∷ drop 2 (take 3 (valuesAfter s
 unfolding computes
 absents = refl
 
--- "Drawing the first row north whatever octet 28 says": point 0 of 3 columns and 2 rows, under each setting of the three bits
+-- "Drawing the first row north whatever octet 28 says": point 0 of 3 columns and 2 rows, under each setting of the
+-- three bits
 corners : map (λ scan. spotOf 3 2 scan 0) (0 ∷ 32 ∷ 64 ∷ 96 ∷ 128 ∷ 160 ∷ 192 ∷ 224 ∷ [])
     ≡ record { row = 0; column = 0 }
     ∷ record { row = 0; column = 0 }
@@ -56,7 +57,8 @@ longer : valuesAfter (set (set (take 36 specimen ++ (5 ∷ 6 ∷ drop 36 specime
 unfolding computes
 longer = refl
 
--- "Using a grid point's number to find its data bits": grid point 3 is data point 2, whose bits are 7; data point 3's bits would be 0
+-- "Using a grid point's number to find its data bits": grid point 3 is data point 2, whose bits are 7; data point 3's
+-- bits would be 0
 fourth : numberingOf specimen nothing 3 ≡ numbered 2
 unfolding computes
 fourth = refl

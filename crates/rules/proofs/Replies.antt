@@ -5,7 +5,9 @@ use mathlib.Core.Bool.{true, false}
 use Prim.Native.Nat.{ℕ, _+_, _/_, _%_}
 use lib.IntN.{ℤ, pos, negsuc}
 use lib.ListN.{set, take, drop, length}
-use Rattle.rules.specs.declared.{Geometry.Geometry, Form.Form, Found.the-variants.Nothing, Found.the-variants.Given, Bitmap.the-variants.Without, Bitmap.the-variants.Carried, Bitmap.the-variants.Stored}
+use Rattle.rules.specs.declared.{Geometry.Geometry, Form.Form, Found.the-variants.Nothing}
+use Rattle.rules.specs.declared.{Found.the-variants.Given, Bitmap.the-variants.Without}
+use Rattle.rules.specs.declared.{Bitmap.the-variants.Carried, Bitmap.the-variants.Stored}
 use Rattle.rules.specs.Numbers.{plain}
 use Rattle.rules.specs.Table.{refusal, anyOf}
 use Rattle.rules.specs.Time.{momentFaults}
@@ -131,7 +133,8 @@ checking : map (λ f. checkOf specimen nothing f .number)
     ∷ with-numbers (source .numbers) (1 ∷ 1 ∷ 1 ∷ 0 ∷ []) (pos 1)
     ∷ with-numbers (pos 2500 ∷ pos 2501 ∷ pos 77 ∷ pos 2507 ∷ []) (source .marks) (pos 1)
     ∷ [])
-    ++ (checkOf (set specimen 81 25) nothing source .number ∷ checkOf (set specimen 82 0x40) nothing source .number ∷ checkOf [] nothing source .number ∷ [])
+    ++ (checkOf (set specimen 81 25) nothing source .number ∷ checkOf (set specimen 82 0x40) nothing source .number
+    ∷ checkOf [] nothing source .number ∷ [])
     ≡ 18 ∷ 15 ∷ 15 ∷ 17 ∷ 16 ∷ 16 ∷ 1 ∷ []
 unfolding computes
 checking = refl
@@ -167,7 +170,8 @@ wholes : map whole (0x40800000 ∷ 0x41100000 ∷ 0x41180000 ∷ 0x7fffffff ∷ 
 unfolding computes
 wholes = refl
 
--- "256 × 256 points taken; 257 × 256 refused (9)", with N = 0 and no bitmap: "L = 12, unused 8"; and grid 29 of the catalogue
+-- "256 × 256 points taken; 257 × 256 refused (9)", with N = 0 and no bitmap: "L = 12, unused 8"; and grid 29 of the
+-- catalogue
 abbrev flat : ℕ → List ℕ → List ℕ
 flat octet8 gds =
     let rest = set (take 28 (drop 8 specimen)) 7 octet8 ++ (gds ++ (0 ∷ 0 ∷ 12 ∷ 8 ∷ 0 ∷ 0 ∷ 0 ∷ 0 ∷ 0 ∷ 0 ∷ 0 ∷ 0 ∷ drop 90 specimen)) in

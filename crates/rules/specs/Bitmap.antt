@@ -5,7 +5,8 @@ use mathlib.Core.List.{List, [], _∷_}
 use lib.Dec.{ltb, eqb}
 use denote.Ref.{RefT}
 use lib.ListN.{length, getD}
-use Rattle.rules.specs.declared.{Part.Part, Bitmap.Bitmap, Bitmap.the-variants.Without, Bitmap.the-variants.Carried, Bitmap.the-variants.Stored}
+use Rattle.rules.specs.declared.{Part.Part, Bitmap.Bitmap, Bitmap.the-variants.Without}
+use Rattle.rules.specs.declared.{Bitmap.the-variants.Carried, Bitmap.the-variants.Stored}
 use Rattle.bits.specs.Bits.{bitsIn, runs, octetsFor}
 use Rattle.bits.specs.Tables.{tab, anyBelow}
 use Rattle.rules.specs.Bounds.{bmsHead}
@@ -17,13 +18,19 @@ pub record Lent : Type 0 where
   pub number : ℕ
   pub octets : List ℕ
 
+-- the stored bitmap lent with a call: its number and its octets
+abbrev pub lentAs : ℕ → List ℕ → Lent
+lentAs number octets = record { number = number; octets = octets }
+
 -- "bitmap number 5-6. Number 0: bits follow .. Another number": what a bitmap section says, where there is one
 unfoldable pub bitmapAt : List ℕ → Bool → ℕ → Bitmap
 bitmapAt s there b = cond there (cond (eqb (number s b 5 6) 0) Carried (Stored (number s b 5 6))) Without
 
--- 10, of the lent bitmap: "its number must be this one and its octets hold at least n bits" (and number 0 is no stored bitmap's)
+-- 10, of the lent bitmap: "its number must be this one and its octets hold at least n bits" (and number 0 is no stored
+-- bitmap's)
 unfoldable pub lentFaults : Lent → ℕ → ℕ → List Bool
-lentFaults lent number n = eqb number 0 ∷ not (eqb (lent .number) number) ∷ ltb (length (lent .octets)) (octetsFor n) ∷ []
+lentFaults lent number n =
+    eqb number 0 ∷ not (eqb (lent .number) number) ∷ ltb (length (lent .octets)) (octetsFor n) ∷ []
 
 -- 10: carried, "8 × (L − 6) − unused = n and unused 0 to 15"; stored, "L is 6, octet 4 is 0", and the lent bitmap
 unfoldable pub bitmapFaults : List ℕ → Lent → Part → Bitmap → ℕ → List Bool
@@ -31,10 +38,11 @@ bitmapFaults s lent p Without n = []
 bitmapFaults s lent p Carried n =
     let unused = octet s (p .start) 4 in
     ltb 15 unused ∷ not (eqb (8 * (p .len - bmsHead)) (n + unused)) ∷ []
-bitmapFaults s lent p (Stored number) n = not (eqb (p .len) bmsHead) ∷ not (eqb (octet s (p .start) 4) 0) ∷ lentFaults lent number n
+bitmapFaults s lent p (Stored number) n =
+    not (eqb (p .len) bmsHead) ∷ not (eqb (octet s (p .start) 4) 0) ∷ lentFaults lent number n
 
--- "The bitmap in force is part of the message or part of the lent store ..: just the octets that hold its n bits. With no bitmap .. it is
--- the empty part at the message's start": whether it is the store's, and which part of that slice
+-- "The bitmap in force is part of the message or part of the lent store ..: just the octets that hold its n bits. With
+-- no bitmap .. it is the empty part at the message's start": whether it is the store's, and which part of that slice
 pub record InForce : Type 0 where
   pub stored : Bool
   pub part : Part
@@ -63,8 +71,8 @@ bitmapGiven (Stored number) = true
 unfoldable pub presentBy : Bitmap → List ℕ → ℕ → ℕ
 presentBy bitmap bits i = cond (bitmapGiven bitmap) (bitsIn 8 bits i) 1
 
--- the mark of a point, the list of n marks, how long it is, and "a mark not 0 or 1" among them (the one place that knows how a list of marks
--- says presence)
+-- the mark of a point, the list of n marks, how long it is, and "a mark not 0 or 1" among them (the one place that
+-- knows how a list of marks says presence)
 abbrev pub markOf : List ℕ → ℕ → ℕ
 markOf marks i = getD marks i 0
 

@@ -1,4 +1,5 @@
--- Document 01, "What a message is here": the table of bounds; and the bounds that other rules name, by their words. A range that one field alone has stands at its test.
+-- Document 01, "What a message is here": the table of bounds; and the bounds that other rules name, by their words. A
+-- range that one field alone has stands at its test.
 use Prim.Native.Nat.{ℕ, _-_, _^_}
 use lib.IntN.{ℤ, pos, negsuc}
 

@@ -2,7 +2,9 @@
 use Prim.Native.Nat.{ℕ, _+_, _-_, _*_, _/_, _%_}
 use mathlib.Core.Bool.{Bool, _&&_, cond}
 use lib.Dec.{ltb}
-use Rattle.rules.specs.declared.{Shape.Shape, GridPoint.GridPoint, Spot.Spot, Charted.Charted, Charted.the-variants.On, Charted.the-variants.Off, Pointed.Pointed, Pointed.the-variants.At, Pointed.the-variants.Off as Nowhere}
+use Rattle.rules.specs.declared.{Shape.Shape, GridPoint.GridPoint, Spot.Spot, Charted.Charted}
+use Rattle.rules.specs.declared.{Charted.the-variants.On, Charted.the-variants.Off, Pointed.Pointed}
+use Rattle.rules.specs.declared.{Pointed.the-variants.At, Pointed.the-variants.Off as Nowhere}
 use Rattle.rules.specs.Numbers.{bit}
 
 -- "Scanning bit 1 set: columns run west"
@@ -59,4 +61,5 @@ unfoldable pub charted : Shape → GridPoint → Charted
 charted g k = cond (ltb (k .0) (pointsOn g)) (On (spotOn g (k .0))) Off
 
 unfoldable pub pointed : Shape → Spot → Pointed
-pointed g c = cond (ltb (c .row) (rowsOn g) && ltb (c .column) (rowLong g (c .row))) (At (record { 0 = pointOn g c })) Nowhere
+pointed g c =
+    cond (ltb (c .row) (rowsOn g) && ltb (c .column) (rowLong g (c .row))) (At (record { 0 = pointOn g c })) Nowhere

@@ -13,16 +13,18 @@ use Rattle.rules.specs.Bitmap.{Lent}
 use Rattle.rules.specs.Values.{sOf, aOf, bOf}
 use Rattle.rules.specs.Reading.{messageTable, scaleIn}
 
--- R's double: sign, exponent, and the digits of B under its leading one, whose weight in B is 2^(31 − z) with z = leadingZeros 32 B.
--- By "B × 16^(A − 64) / 2^24" that one stands for 2^(31 − z + 4 × (A − 64) − 24), so the exponent's field is 1,023 more than this. It is made in two parts: B is moved up by
--- 21 + z bits, so that its leading one comes to 2^52, where it adds 1 to the field, and the rest of the field is 4 × A − z and this number, which is 773
+-- R's double: sign, exponent, and the digits of B under its leading one, whose weight in B is 2^(31 − z) with z =
+-- leadingZeros 32 B. By "B × 16^(A − 64) / 2^24" that one stands for 2^(31 − z + 4 × (A − 64) − 24), so the exponent's
+-- field is 1,023 more than this. It is made in two parts: B is moved up by 21 + z bits, so that its leading one comes
+-- to 2^52, where it adds 1 to the field, and the rest of the field is 4 × A − z and this number, which is 773
 abbrev pub refExponent : ℕ
 refExponent = 1023 + 31 - 4 * 64 - 24 - 1
 
 -- "R with B = 0 gives all bits zero"
 unfoldable pub refBits : ℕ → ℕ → ℕ → ℕ
 refBits s a zero = 0
-refBits s a (suc b) = s * 2 ^ 63 + ((4 * a + refExponent - leadingZeros 32 (suc b)) * 2 ^ 52 + suc b * 2 ^ (21 + leadingZeros 32 (suc b)))
+refBits s a (suc b) =
+    s * 2 ^ 63 + ((4 * a + refExponent - leadingZeros 32 (suc b)) * 2 ^ 52 + suc b * 2 ^ (21 + leadingZeros 32 (suc b)))
 
 -- 2^E's double, E from −1,022 to 1,023: E + 1,023 in the exponent's field
 unfoldable pub stepBits : ℤ → ℕ
@@ -37,7 +39,8 @@ shownStep e = ofBits binary64 (stepBits e)
 
 -- "E outside −1,022 to 1,023 is refusal 16, after 1 to 12"
 unfoldable pub displayTable : List ℕ → Lent → List Row
-displayTable s lent = messageTable s lent ++ (row 16 (ltZ (scaleIn s .e .value) shownLeast || ltZ shownMost (scaleIn s .e .value)) ∷ [])
+displayTable s lent =
+    messageTable s lent ++ (row 16 (ltZ (scaleIn s .e .value) shownLeast || ltZ shownMost (scaleIn s .e .value)) ∷ [])
 
 unfoldable pub displayOf : List ℕ → Lent → Display
 displayOf s lent =

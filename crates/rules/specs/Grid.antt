@@ -5,12 +5,15 @@ use mathlib.Core.List.{List, [], _∷_, _++_}
 use lib.Dec.{ltb, eqb}
 use lib.IntN.{ℤ, pos, negsuc}
 use lib.Signed.{ltZ}
-use Rattle.rules.specs.declared.{Signed.Signed, Part.Part, Grid.Grid, Entry.Entry, Found.Found, Found.the-variants.Nothing, Found.the-variants.Given}
+use Rattle.rules.specs.declared.{Signed.Signed, Part.Part, Grid.Grid, Entry.Entry, Found.Found}
+use Rattle.rules.specs.declared.{Found.the-variants.Nothing, Found.the-variants.Given}
 use Rattle.rules.specs.Bounds.{gdsLength, sideMost, pointsMost, latitudeMost, longitudeMost}
 use Rattle.rules.specs.Chart.{north, pointsOn}
-use Rattle.rules.specs.Numbers.{Field, field, laid, octet, number, plain, signedAt, signedField, outside, beyond}
+use Rattle.rules.specs.Numbers.{Field, field, laid, octet, number, plain, signedAt, signedField, notWithin}
+use Rattle.rules.specs.Numbers.{beyond}
 
--- "Ni 7-8; Nj 9-10; La1 11-13; Lo1 14-16; resolution flags 17; La2 18-20; Lo2 21-23; Di 24-25; Dj 26-27; scanning flags 28"
+-- "Ni 7-8; Nj 9-10; La1 11-13; Lo1 14-16; resolution flags 17; La2 18-20; Lo2 21-23; Di 24-25; Dj 26-27; scanning flags
+-- 28"
 unfoldable pub gridAt : List ℕ → ℕ → Grid
 gridAt s g = record {
   shape = record { ni = number s g 7 8; nj = number s g 9 10; scan = octet s g 28 };
@@ -35,7 +38,8 @@ headFields len ni nj = field 3 len ∷ field 1 0 ∷ field 1 255 ∷ field 1 0 �
 
 -- "La1 11-13; Lo1 14-16; resolution flags 17; La2 18-20; Lo2 21-23"
 abbrev pub cornerFields : Signed → Signed → ℕ → Signed → Signed → List Field
-cornerFields la1 lo1 flags la2 lo2 = signedField 3 la1 ∷ signedField 3 lo1 ∷ field 1 flags ∷ signedField 3 la2 ∷ signedField 3 lo2 ∷ []
+cornerFields la1 lo1 flags la2 lo2 =
+    signedField 3 la1 ∷ signedField 3 lo1 ∷ field 1 flags ∷ signedField 3 la2 ∷ signedField 3 lo2 ∷ []
 
 -- "Di 24-25; Dj 26-27; scanning flags 28; 29-32 reserved, .. written zero"
 abbrev pub stepFields : ℕ → ℕ → ℕ → List Field
@@ -76,7 +80,8 @@ unfoldable pub lookup : List Entry → ℕ → Found
 lookup [] n = Nothing
 lookup (e ∷ es) n = cond (eqb (e .number) n) (Given (e .grid)) (lookup es n)
 
--- "Without a GDS, PDS octet 7 picks from this catalogue .. With one, the GDS decides and octet 7 is not compared", of a PDS at place p
+-- "Without a GDS, PDS octet 7 picks from this catalogue .. With one, the GDS decides and octet 7 is not compared", of a
+-- PDS at place p
 unfoldable pub gridFrom : Found → List ℕ → ℕ → Found
 gridFrom (Given g) s p = Given g
 gridFrom Nothing s p = lookup catalogue (octet s p 7)
@@ -89,7 +94,10 @@ gridMissing (Given g) = false
 unfoldable pub noGrid : Grid
 noGrid =
     let none = plain (pos 0) in
-    record { shape = record { ni = 0; nj = 0; scan = 0 }; geometry = record { la1 = none; lo1 = none; flags = 0; la2 = none; lo2 = none; di = 0; dj = 0 } }
+    record {
+      shape = record { ni = 0; nj = 0; scan = 0 };
+      geometry = record { la1 = none; lo1 = none; flags = 0; la2 = none; lo2 = none; di = 0; dj = 0 };
+    }
 
 -- the grid; zeros where there is none, which 7 refuses
 abbrev pub theGrid : Found → Grid
@@ -98,7 +106,9 @@ theGrid (Given g) = g
 
 -- 8: "GDS length or octets 4 to 6 not as above"
 unfoldable pub gdsFaults : List ℕ → Part → List Bool
-gdsFaults s p = not (eqb (p .len) gdsLength) ∷ not (eqb (octet s (p .start) 4) 0) ∷ not (eqb (octet s (p .start) 5) 255) ∷ not (eqb (octet s (p .start) 6) 0) ∷ []
+gdsFaults s p =
+    not (eqb (p .len) gdsLength) ∷ not (eqb (octet s (p .start) 4) 0) ∷ not (eqb (octet s (p .start) 5) 255)
+    ∷ not (eqb (octet s (p .start) 6) 0) ∷ []
 
 -- n
 abbrev pub pointsOf : Grid → ℕ
@@ -106,15 +116,16 @@ pointsOf g = pointsOn (g .shape)
 
 -- "If Nj > 1, rows running north need La2 above La1, else La2 below La1; with Nj = 1 this is not tested"
 unfoldable pub scanBad : ℕ → ℕ → Signed → Signed → Bool
-scanBad nj scan la1 la2 = ltb 1 nj && not (cond (north scan) (ltZ (la1 .value) (la2 .value)) (ltZ (la2 .value) (la1 .value)))
+scanBad nj scan la1 la2 =
+    ltb 1 nj && not (cond (north scan) (ltZ (la1 .value) (la2 .value)) (ltZ (la2 .value) (la1 .value)))
 
 -- 9: "Ni, Nj, n, a latitude, a longitude or the scan test outside the rules"
 unfoldable pub gridFaults : Grid → List Bool
 gridFaults g =
     let a = g .geometry in
-    outside 1 sideMost (g .shape .ni)
-    ∷ outside 1 sideMost (g .shape .nj)
-    ∷ outside 1 pointsMost (pointsOf g)
+    notWithin 1 sideMost (g .shape .ni)
+    ∷ notWithin 1 sideMost (g .shape .nj)
+    ∷ notWithin 1 pointsMost (pointsOf g)
     ∷ beyond latitudeMost (a .la1 .value)
     ∷ beyond latitudeMost (a .la2 .value)
     ∷ beyond longitudeMost (a .lo1 .value)

@@ -108,10 +108,12 @@ refusedLine r = lineOf (refusedWord ∷ decimal (r .number) ∷ [])
 unfoldable pub listingRefusal : List ℕ → Refusal
 listingRefusal s =
     let room = tab (λ _. 0) in
-    firstOr (row 1 (ltb listedMost (length s)) ∷ []) (readRefusal s noStore (room listedRoom) (room (marksLong listedRoom)))
+    firstOr (row 1 (ltb listedMost (length s)) ∷ [])
+    (readRefusal s noStore (room listedRoom) (room (marksLong listedRoom)))
 
 unfoldable pub listingOf : List ℕ → List ℕ
 listingOf s =
     let r = listingRefusal s in
     let h = foundIn s noStore in
-    cond (accepted r) (firstLine h ++ rowLines (presentIn s noStore) (valuesIn s noStore) (h .grid .shape)) (refusedLine r)
+    cond (accepted r) (firstLine h ++ rowLines (presentIn s noStore) (valuesIn s noStore) (h .grid .shape))
+    (refusedLine r)

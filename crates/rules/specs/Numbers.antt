@@ -83,8 +83,8 @@ abbrev pub decimalAt : List ℕ → ℕ → Signed
 decimalAt s p = signedAt s p 27 28
 
 -- outside a range, both ends allowed; a magnitude over a bound
-abbrev pub outside : ℕ → ℕ → ℕ → Bool
-outside least most n = ltb n least || ltb most n
+abbrev pub notWithin : ℕ → ℕ → ℕ → Bool
+notWithin least most n = ltb n least || ltb most n
 
 abbrev pub beyond : ℕ → ℤ → Bool
 beyond most z = ltZ (pos most) z || ltZ z (negℤ (pos most))

@@ -25,7 +25,9 @@ lowest present v (suc n) =
     cond (eqb (present n) 1 && ltZ (v n) before) (v n) before
 
 unfoldable pub reference : Source → ℤ
-reference f = cond (eqb (count (presentOf f) 0 (length (f .numbers))) 0) (pos 0) (lowest (presentOf f) (numberOf f) (length (f .numbers)))
+reference f =
+    cond (eqb (count (presentOf f) 0 (length (f .numbers))) 0) (pos 0)
+    (lowest (presentOf f) (numberOf f) (length (f .numbers)))
 
 -- "with leading hex digit not zero, and zero as 32 zero bits": h hex digits, at most 6, make A = 64 + h
 abbrev pub negative : ℤ → ℕ
@@ -59,8 +61,8 @@ unfoldable pub packedAt : Source → ℕ → ℕ → ℕ
 packedAt f e i = cond (eqb (presentOf f i) 1) (stepped e (above f i)) 0
 
 -- the parts that the packer writes
-unfoldable pub packed : List ℕ → Form → Lent → Source → Parts
-packed pds form lent f =
+unfoldable pub packedParts : List ℕ → Form → Lent → Source → Parts
+packedParts pds form lent f =
     let e = exponent f (form .packing .bits) in
     record {
       pds = pds;
@@ -71,7 +73,8 @@ packed pds form lent f =
       marks = f .marks;
     }
 
--- "Packer: 5, 18, 15 (D of PDS and source only), 11, 19, then the rest of the writer's" (whose 5 and 11 have passed by then)
+-- "Packer: 5, 18, 15 (D of PDS and source only), 11, 19, then the rest of the writer's" (whose 5 and 11 have passed by
+-- then)
 unfoldable pub packTable : List ℕ → Form → Lent → Source → List ℕ → List Row
 packTable pds form lent f out =
     row 5 (anyOf (pdsFaults pds))
@@ -79,13 +82,13 @@ packTable pds form lent f out =
     ∷ row 15 (decimalDiffers (decimalAt pds 0 .value) (f .d))
     ∷ row 11 (anyOf (packingFaults (form .packing)))
     ∷ row 19 (ltb stepMost (exponent f (form .packing .bits)))
-    ∷ writeTable (packed pds form lent f) out
+    ∷ writeTable (packedParts pds form lent f) out
 
 unfoldable pub packRefusal : List ℕ → Form → Lent → Source → List ℕ → Refusal
 packRefusal pds form lent f out = first (packTable pds form lent f out)
 
 unfoldable pub packOf : List ℕ → Form → Lent → Source → List ℕ → Written
-packOf pds form lent f out = lengthOf (packRefusal pds form lent f out) (message (packed pds form lent f))
+packOf pds form lent f out = lengthOf (packRefusal pds form lent f out) (message (packedParts pds form lent f))
 
 unfoldable pub packedAfter : List ℕ → Form → Lent → Source → List ℕ → List ℕ
-packedAfter pds form lent f out = filled (packRefusal pds form lent f out) (message (packed pds form lent f)) out
+packedAfter pds form lent f out = filled (packRefusal pds form lent f out) (message (packedParts pds form lent f)) out

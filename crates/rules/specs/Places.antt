@@ -9,7 +9,7 @@ use denote.Ref.{RefT, now, ptr}
 use Rattle.rules.specs.declared.{Part.Part, Places.Places}
 use Rattle.rules.specs.Bounds.{messageLeast, messageMost, pdsLeast, pdsMost, gdsLeast, bmsLeast, bdsLeast}
 use Rattle.rules.specs.Table.{anyOf}
-use Rattle.rules.specs.Numbers.{octet, bit, number, outside}
+use Rattle.rules.specs.Numbers.{octet, bit, number, notWithin}
 
 -- the octets of a part
 abbrev pub octetsOf : List ℕ → Part → List ℕ
@@ -66,15 +66,18 @@ placesOf s =
 unfoldable pub sectionsOf : List ℕ → List Part
 sectionsOf s =
     let p = placesOf s in
-    record { start = 0; len = pdsStart } ∷ p .pds ∷ p .gds ∷ p .bms ∷ p .bds ∷ record { start = endStart s; len = 4 } ∷ []
+    record { start = 0; len = pdsStart }
+    ∷ p .pds ∷ p .gds ∷ p .bms ∷ p .bds
+    ∷ record { start = endStart s; len = 4 }
+    ∷ []
 
 -- 1: "slice below 8 or above 262,144 octets"
 unfoldable pub sizeBad : List ℕ → Bool
-sizeBad s = outside messageLeast messageMost (length s)
+sizeBad s = notWithin messageLeast messageMost (length s)
 
 -- 2: "first four octets not 'GRIB'"
-unfoldable pub markBad : List ℕ → Bool
-markBad s = not (eqb (number s 0 1 4) grib)
+unfoldable pub gribBad : List ℕ → Bool
+gribBad s = not (eqb (number s 0 1 4) grib)
 
 -- 3: "edition not 1"
 unfoldable pub editionBad : List ℕ → Bool

@@ -7,13 +7,15 @@ use lib.ListN.{getD}
 use Rattle.bits.specs.Bits.{count}
 use Rattle.bits.specs.Tables.{tab}
 
--- what is said of a grid point: its data number, that it is absent, or (a case of its own) that the grid has no such point
+-- what is said of a grid point: its data number, that it is absent, or (a case of its own) that the grid has no such
+-- point
 pub data Numbering : Type 0 where
   numbered : ℕ → Numbering
   absent : Numbering
   outside : Numbering
 
--- "A present grid point's data number is the count of ones before it in the bitmap .. An absent point has none", of n points
+-- "A present grid point's data number is the count of ones before it in the bitmap .. An absent point has none", of n
+-- points
 unfoldable pub dataNumber : (ℕ → ℕ) → ℕ → ℕ → Numbering
 dataNumber present n i = cond (ltb i n) (cond (eqb (present i) 1) (numbered (count present 0 i)) absent) outside
 

@@ -5,18 +5,24 @@ use mathlib.Core.List.{List, [], _∷_, _++_}
 use lib.Dec.{ltb, eqb}
 use lib.IntN.{pos}
 use lib.ListN.{length, getD}
-use Rattle.rules.specs.declared.{Refusal.Refusal, Signed.Signed, Part.Part, Places.Places, Found.Found, Found.the-variants.Nothing, Found.the-variants.Given, Bitmap.Bitmap, Bitmap.the-variants.Without, Packing.Packing, Scale.Scale, Parsed.Parsed, Header.Header}
+use Rattle.rules.specs.declared.{Refusal.Refusal, Signed.Signed, Part.Part, Places.Places, Found.Found}
+use Rattle.rules.specs.declared.{Found.the-variants.Nothing, Found.the-variants.Given, Bitmap.Bitmap}
+use Rattle.rules.specs.declared.{Bitmap.the-variants.Without, Packing.Packing, Scale.Scale, Parsed.Parsed}
+use Rattle.rules.specs.declared.{Header.Header}
 use Rattle.bits.specs.Bits.{count}
 use Rattle.rules.specs.Numbers.{plain, decimalAt}
 use Rattle.rules.specs.Table.{Row, row, anyOf, first, refusal, answered, filled}
-use Rattle.rules.specs.Places.{noPart, pdsStart, endStart, hasGrid, hasBitmap, placesOf, sectionsOf, sizeBad, markBad, editionBad, totalFaults, placesFaults}
+use Rattle.rules.specs.Places.{noPart, pdsStart, endStart, hasGrid, hasBitmap, placesOf, sectionsOf, sizeBad}
+use Rattle.rules.specs.Places.{gribBad, editionBad, totalFaults, placesFaults}
 use Rattle.rules.specs.Time.{momentAt, noMoment, timeFaults}
 use Rattle.rules.specs.Grid.{gridAt, gridFrom, gridMissing, noGrid, theGrid, gdsFaults, pointsOf, gridFaults}
-use Rattle.rules.specs.Bitmap.{Lent, bitmapAt, bitmapFaults, InForce, inForce, noBitmap, bitmapOctets, presentBy, marksOf, marksLong}
+use Rattle.rules.specs.Bitmap.{Lent, bitmapAt, bitmapFaults, InForce, inForce, noBitmap, bitmapOctets, presentBy}
+use Rattle.rules.specs.Bitmap.{marksOf, marksLong}
 use Rattle.rules.specs.Points.{Numbering, outside, dataNumber, scattered}
 use Rattle.rules.specs.Values.{packingAt, scaleAt, packingFaults, lengthBad, valuesAt}
 
--- the parts of a message, whatever its octets are: its GDS's grid if it has one, its grid, the kind of its bitmap, and so on
+-- the parts of a message, whatever its octets are: its GDS's grid if it has one, its grid, the kind of its bitmap, and
+-- so on
 unfoldable pub gridIn : List ℕ → Found
 gridIn s = cond (hasGrid s pdsStart) (Given (gridAt s (placesOf s .gds .start))) Nothing
 
@@ -64,7 +70,7 @@ messageTable s lent =
     -- "slice below 8 or above 262,144 octets"
     row 1 (sizeBad s)
     -- "first four octets not 'GRIB'"
-    ∷ row 2 (markBad s)
+    ∷ row 2 (gribBad s)
     -- "edition not 1"
     ∷ row 3 (editionBad s)
     -- "total length is not the slice's, or last four octets not '7777'"
@@ -87,12 +93,12 @@ messageTable s lent =
     ∷ row 12 (lengthBad s (placesOf s .bds) (presentCount s lent) (packingIn s))
     ∷ []
 
--- its rows 1 to 11 in three groups, over what was read before, as code judges them (laws: RowsInGroups). Each test can be judged once those above it have passed: then none
--- reads past its section
+-- its rows 1 to 11 in three groups, over what was read before, as code judges them (laws: RowsInGroups). Each test can
+-- be judged once those above it have passed: then none reads past its section
 unfoldable pub layoutRows : List ℕ → Places → List Row
 layoutRows s p =
     row 1 (sizeBad s)
-    ∷ row 2 (markBad s)
+    ∷ row 2 (gribBad s)
     ∷ row 3 (editionBad s)
     ∷ row 4 (anyOf (totalFaults s))
     ∷ row 5 (anyOf (placesFaults (endStart s) (hasGrid s pdsStart) (hasBitmap s pdsStart) p))
@@ -126,7 +132,8 @@ parsedOf s = record {
 -- rows 1 to 11: all but the one that asks how many points are present
 unfoldable pub earlierRows : List ℕ → Lent → Parsed → List Row
 earlierRows s lent q =
-    layoutRows s (q .places) ++ (gridRows s (q .places) (q .found) ++ dataRows s lent (q .places .bms) (q .bitmap) (q .points) (q .packing))
+    layoutRows s (q .places)
+    ++ (gridRows s (q .places) (q .found) ++ dataRows s lent (q .places .bms) (q .bitmap) (q .points) (q .packing))
 
 -- a refused answer: "its number with all counts and fields zero"
 unfoldable pub refusedBy : Refusal → Header
@@ -173,7 +180,9 @@ headerOf s lent = answerBy (ownRefusal s lent) s lent
 
 -- reading into lent lists: 14 "lent output too short" comes last
 unfoldable pub readTable : List ℕ → Lent → List ℕ → List ℕ → List Row
-readTable s lent values marks = messageTable s lent ++ (row 14 (ltb (length values) (pointsIn s) || ltb (length marks) (marksLong (pointsIn s))) ∷ [])
+readTable s lent values marks =
+    messageTable s lent
+    ++ (row 14 (ltb (length values) (pointsIn s) || ltb (length marks) (marksLong (pointsIn s))) ∷ [])
 
 unfoldable pub readRefusal : List ℕ → Lent → List ℕ → List ℕ → Refusal
 readRefusal s lent values marks = first (readTable s lent values marks)
@@ -192,7 +201,8 @@ marksAfter s lent values marks = filled (readRefusal s lent values marks) (marks
 unfoldable pub bitmapOf : List ℕ → Lent → InForce
 bitmapOf s lent = answered (ownRefusal s lent) (inForceIn s) noBitmap
 
--- "Asking for section 0 to 5 hands back that part ..; an absent section, another number or a message that 1 to 12 refuse gives the empty part at its start"
+-- "Asking for section 0 to 5 hands back that part ..; an absent section, another number or a message that 1 to 12
+-- refuse gives the empty part at its start"
 unfoldable pub sectionOf : List ℕ → Lent → ℕ → Part
 sectionOf s lent k =
     let p = getD (sectionsOf s) k noPart in

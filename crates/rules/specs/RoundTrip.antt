@@ -4,7 +4,8 @@ use mathlib.Core.Bool.{Bool, false, not, _&&_}
 use mathlib.Core.List.{List, [], _∷_}
 use lib.Dec.{eqb}
 use Rattle.bits.specs.Bits.{bitsIn, count}
-use Rattle.rules.specs.declared.{Bitmap.Bitmap, Bitmap.the-variants.Without, Bitmap.the-variants.Carried, Bitmap.the-variants.Stored}
+use Rattle.rules.specs.declared.{Bitmap.Bitmap, Bitmap.the-variants.Without, Bitmap.the-variants.Carried}
+use Rattle.rules.specs.declared.{Bitmap.the-variants.Stored}
 use Rattle.rules.specs.Bounds.{bmsHead, bdsHead}
 use Rattle.rules.specs.Numbers.{octet, number, sign}
 use Rattle.rules.specs.Table.{anyOf}
@@ -41,8 +42,8 @@ bitmapPaddingSet s (Stored number) b n = false
 abbrev pub dataPaddingSet : List ℕ → ℕ → ℕ → ℕ → Bool
 dataPaddingSet s b len t = paddingSet s ((b + bdsHead) * 8 + t) (8 * (len - bdsHead) - t)
 
--- what keeps a message from coming back octet for octet, each by itself: reserved octets, the grid's four signed fields, the bitmap's
--- padding, E, the data's padding
+-- what keeps a message from coming back octet for octet, each by itself: reserved octets, the grid's four signed
+-- fields, the bitmap's padding, E, the data's padding
 unfoldable pub stains : List ℕ → Lent → List Bool
 stains s lent =
     let p = placesOf s in

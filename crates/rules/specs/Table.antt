@@ -26,8 +26,9 @@ anyOf (a ∷ tests) = orAll a tests
 abbrev pub row : ℕ → Bool → Row
 row n test = given (refusal n) test
 
--- "The first that applies in number order is given, by reader and writer", whose rows stand in that order; the checker's and the packer's stand in their own. "0 is acceptance":
--- what the rows give, and `below` where none applies (a `let` waits: no test below a row that applies is computed)
+-- "The first that applies in number order is given, by reader and writer", whose rows stand in that order; the
+-- checker's and the packer's stand in their own. "0 is acceptance": what the rows give, and `below` where none applies
+-- (a `let` waits: no test below a row that applies is computed)
 unfoldable pub firstOr : List Row → Refusal → Refusal
 firstOr [] below = below
 firstOr (given r test ∷ rows) below = let rest = firstOr rows below in cond test r rest
@@ -38,7 +39,8 @@ first rows = firstOr rows (refusal 0)
 abbrev pub accepted : Refusal → Bool
 accepted r = eqb (r .number) 0
 
--- "Every other reply returns its number with all counts and fields zero": what is answered, of what was found and of zeros
+-- "Every other reply returns its number with all counts and fields zero": what is answered, of what was found and of
+-- zeros
 abbrev pub answered {ℓ} : {A : Type ℓ} → Refusal → A → A → A
 answered r found zeros = cond (accepted r) found zeros
 

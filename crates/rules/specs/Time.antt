@@ -4,7 +4,7 @@ use mathlib.Core.Bool.{Bool, not, _&&_, _||_, cond}
 use mathlib.Core.List.{List, [], _∷_}
 use lib.Dec.{ltb, eqb}
 use Rattle.rules.specs.declared.{Moment.Moment}
-use Rattle.rules.specs.Numbers.{octet, outside}
+use Rattle.rules.specs.Numbers.{octet, notWithin}
 
 unfoldable pub yearOf : ℕ → ℕ → ℕ
 yearOf century year = 100 * (century - 1) + year
@@ -19,10 +19,10 @@ daysIn y m = cond (eqb m 2) (cond (leap y) 29 28) (cond (eqb m 4 || eqb m 6 || e
 -- "century 18 to 99, year of century 0 to 99, month 1 to 12, day .., hour 0 to 23, minute 0 to 59"
 unfoldable pub momentFaults : ℕ → ℕ → ℕ → ℕ → ℕ → ℕ → List Bool
 momentFaults century year month day hour minute =
-    outside 18 99 century
+    notWithin 18 99 century
     ∷ ltb 99 year
-    ∷ outside 1 12 month
-    ∷ outside 1 (daysIn (yearOf century year) month) day
+    ∷ notWithin 1 12 month
+    ∷ notWithin 1 (daysIn (yearOf century year) month) day
     ∷ ltb 23 hour
     ∷ ltb 59 minute
     ∷ []

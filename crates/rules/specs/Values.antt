@@ -18,7 +18,8 @@ packingAt s b = record { flags = octet s b 4 / 16; bits = octet s b 11 }
 unfoldable pub scaleAt : List ℕ → ℕ → Scale
 scaleAt s b = record { e = signedAt s b 5 6; r = number s b 7 10 }
 
--- "Flag bits 1, 2 and 4 are 0; bit 3 is carried": of the octet whose "high half" the flags are; a number above 15 is no half of an octet
+-- "Flag bits 1, 2 and 4 are 0; bit 3 is carried": of the octet whose "high half" the flags are; a number above 15 is no
+-- half of an octet
 unfoldable pub flagsBad : ℕ → Bool
 flagsBad flags =
     let x = flags * 16 in

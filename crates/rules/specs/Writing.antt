@@ -5,11 +5,14 @@ use mathlib.Core.List.{List, [], _∷_}
 use lib.Dec.{ltb, leb, eqb}
 use lib.IntN.{pos}
 use lib.ListN.{length}
-use Rattle.rules.specs.declared.{Refusal.Refusal, Found.Found, Found.the-variants.Nothing, Found.the-variants.Given, Bitmap.Bitmap, Bitmap.the-variants.Without, Bitmap.the-variants.Carried, Bitmap.the-variants.Stored, Form.Form, Scale.Scale, Written.Written}
+use Rattle.rules.specs.declared.{Refusal.Refusal, Found.Found, Found.the-variants.Nothing}
+use Rattle.rules.specs.declared.{Found.the-variants.Given, Bitmap.Bitmap, Bitmap.the-variants.Without}
+use Rattle.rules.specs.declared.{Bitmap.the-variants.Carried, Bitmap.the-variants.Stored, Form.Form, Scale.Scale}
+use Rattle.rules.specs.declared.{Written.Written}
 use Rattle.rules.specs.Bounds.{pdsLeast, pdsMost, exponentMost}
 use Rattle.bits.specs.Bits.{bitsIn}
 use Rattle.bits.specs.Tables.{tab, anyBelow}
-use Rattle.rules.specs.Numbers.{Field, number, field, laid, joined, plain, outside, beyond}
+use Rattle.rules.specs.Numbers.{Field, number, field, laid, joined, plain, notWithin, beyond}
 use Rattle.rules.specs.Table.{Row, row, anyOf, first, answered, filled}
 use Rattle.rules.specs.Places.{grib, sevens, hasGrid, hasBitmap}
 use Rattle.rules.specs.Time.{timeFaults}
@@ -36,7 +39,8 @@ pointsFor w = pointsOf (theGrid (gridFor w))
 
 -- 5 "covers the PDS length and its octets 1-3"
 unfoldable pub pdsFaults : List ℕ → List Bool
-pdsFaults pds = eqb (length pds % 2) 1 ∷ outside pdsLeast pdsMost (length pds) ∷ not (eqb (number pds 0 1 3) (length pds)) ∷ []
+pdsFaults pds =
+    eqb (length pds % 2) 1 ∷ notWithin pdsLeast pdsMost (length pds) ∷ not (eqb (number pds 0 1 3) (length pds)) ∷ []
 
 -- both lists of n points
 unfoldable pub listsFit : List ℕ → List ℕ → ℕ → Bool
@@ -66,7 +70,9 @@ unfoldable pub partsFaults : Parts → List Bool
 partsFaults w =
     not (listsFit (w .values) (w .marks) (pointsFor w))
     ∷ markOdd (w .marks) (pointsFor w)
-    ∷ anyBelow (λ i. pointBad (bitmapGiven (w .form .bitmap)) (w .form .packing .bits) (markOf (w .marks) i) (valueOf (w .values) i)) (pointsFor w)
+    ∷ anyBelow
+    (λ i. pointBad (bitmapGiven (w .form .bitmap)) (w .form .packing .bits) (markOf (w .marks) i)
+    (valueOf (w .values) i)) (pointsFor w)
     ∷ differ (hasGrid (w .pds) 0) (gridGiven (w .form .grid))
     ∷ differ (hasBitmap (w .pds) 0) (bitmapGiven (w .form .bitmap))
     ∷ []

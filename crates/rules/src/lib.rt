@@ -1,5 +1,5 @@
-// The records that every part of the codec shares, and, in specs/, what document 01 means. All records go by value; a refused answer
-// has zero in every other field.
+// The records that every part of the codec shares, and, in specs/, what document 01 means. All records go by value; a
+// refused answer has zero in every other field.
 
 pub mod bounds;
 

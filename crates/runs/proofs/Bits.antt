@@ -23,5 +23,6 @@ pub fetched-lt : (s : List ℕ) (at n : ℕ) → fetched s at n < 2 ^ n
 unfolding fetched
 fetched-lt s at n = ⊎-elim
     (λ h. subst (λ (y : Bool). cond y (run (bitsIn 8 s) at n) 0 < 2 ^ n) (sym (lt-leb n 32 h)) (pow-pos n))
-    (λ h. subst (λ (y : Bool). cond y (run (bitsIn 8 s) at n) 0 < 2 ^ n) (sym (le-leb n 32 h)) (run-lt (bitsIn-bits 8 s) at n))
+    (λ h. subst (λ (y : Bool). cond y (run (bitsIn 8 s) at n) 0 < 2 ^ n) (sym (le-leb n 32 h))
+    (run-lt (bitsIn-bits 8 s) at n))
     (lt-or-ge 32 n)

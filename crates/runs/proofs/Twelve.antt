@@ -19,7 +19,8 @@ at-start s k w =
     let v : run (bitsIn 8 s) (k * 8 + 0) 12 ≡ run (bitsIn 8 s) (k * 8) 12 = ap (λ (a : ℕ). run (bitsIn 8 s) a 12) (add-zero (k * 8)) in
     omega (arith, run-two s k w)
 
-pub at-middle : (s : List ℕ) (k : ℕ) → Wide 8 s → getD s (k + 1) 0 % 16 * 256 + getD s (k + 2) 0 ≡ run (bitsIn 8 s) (k * 8 + 12) 12
+pub at-middle : (s : List ℕ) (k : ℕ) → Wide 8 s
+    → getD s (k + 1) 0 % 16 * 256 + getD s (k + 2) 0 ≡ run (bitsIn 8 s) (k * 8 + 12) 12
 at-middle s k w =
     let q = w k in
     let r = w (k + 1) in

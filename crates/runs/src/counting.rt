@@ -1,4 +1,5 @@
-// Ones among the bits of octets: whole octets by the machine's count, eight at a time, and the bits left over under a mask.
+// Ones among the bits of octets: whole octets by the machine's count, eight at a time, and the bits left over under a
+// mask.
 ghost use mathlib.Core.Path.{_≡_};
 ghost use Prim.Native.Nat.{_+_, _-_, _*_, _^_, _<_, _≤_};
 ghost use lib.ListN.{length};

@@ -1,4 +1,5 @@
-// A number of up to 32 bits at any bit place. It touches at most five octets, which are read whole; past the end they read 0.
+// A number of up to 32 bits at any bit place. It touches at most five octets, which are read whole; past the end they
+// read 0.
 ghost use mathlib.Core.Path.{_≡_};
 ghost use Prim.Native.Nat.{_*_, _^_, _<_, _≤_};
 ghost use Rattle.bits.specs.Bits.{bitsIn, run};
@@ -8,7 +9,8 @@ use crate::words::word;
 use octets::at;
 use octets::four;
 
-// The number that the five octets from octet k on make: all in one where they are inside, as they are but at the very end.
+// The number that the five octets from octet k on make: all in one where they are inside, as they are but at the very
+// end.
 fn five(s: &[u8], k: usize) -> u64
     requires { ⌜ k < 2 ^ 62 ⌝ }
     ensures { λ r. ⌜ r ≡ run (bitsIn 8 (now (s .entry))) (k * 8) 40 ⌝ }

@@ -1,5 +1,5 @@
-// Numbers of up to 24 bits each, one after another, taken out of octets into a list: eight a turn where four octets can be read at each
-// one's place, as in a message, whose end follows its data; one by one elsewhere.
+// Numbers of up to 24 bits each, one after another, taken out of octets into a list: eight a turn where four octets can
+// be read at each one's place, as in a message, whose end follows its data; one by one elsewhere.
 ghost use mathlib.Core.Path.{_≡_};
 ghost use mathlib.Core.List.{_++_};
 ghost use Prim.Native.Nat.{_+_, _*_, _/_, _^_, _<_, _≤_};
@@ -25,7 +25,8 @@ fn value(s: &[u8], k: usize, skip: usize, n: usize) -> u32
     ((word(s, k) >> (32 - skip - n)) % (1 << n)) as u32
 }
 
-// Where four octets can be read at each value's place. Eight values take n octets, so their shifts are the same in each turn.
+// Where four octets can be read at each value's place. Eight values take n octets, so their shifts are the same in each
+// turn.
 fn unpack_inside(s: &[u8], at: usize, n: usize, out: &mut [u32], m: usize)
     requires { ⌜ n ≤ 24 ⌝ }
     requires { ⌜ (at + m * n) / 8 + 4 ≤ length (now s) ⌝ }
@@ -91,6 +92,7 @@ fn first_12(s: &[u8], p: usize) -> u32
     low(s[p]) * 16 + low(s[p + 1]) / 16
 }
 
+// The second.
 fn second_12(s: &[u8], p: usize) -> u32
     requires { ⌜ p + 3 ≤ length (now s) ⌝ }
     ensures { λ r. ⌜ r ≡ run (bitsIn 8 (now (s .entry))) (p * 8 + 12) 12 ⌝ }
@@ -149,8 +151,8 @@ fn unpack_all(s: &[u8], at: usize, n: usize, out: &mut [u32], m: usize)
     }
 }
 
-// The first m elements of out become the m numbers of n bits each that stand one after another from bit place `at` on. Where n is over 24 or
-// out is shorter than m, nothing changes and the answer is false.
+// The first m elements of out become the m numbers of n bits each that stand one after another from bit place `at` on.
+// Where n is over 24 or out is shorter than m, nothing changes and the answer is false.
 pub fn unpack(s: &[u8], at: u32, n: u8, out: &mut [u32], m: u32) -> bool
     ensures { λ r. ⌜ r ≡ unpackFits n m (length (now (out .entry))) ⌝ }
     ensures { λ _. ⌜ now (out .exit) ≡ unpacked (now (s .entry)) at n m (now (out .entry)) ⌝ }

@@ -1,4 +1,5 @@
--- |V − R| of two numbers of 32 bits, computed in 64: no difference is lost, nor its size. Of two numbers above R the greater is the farther.
+-- |V − R| of two numbers of 32 bits, computed in 64: no difference is lost, nor its size. Of two numbers above R the
+-- greater is the farther.
 use mathlib.Core.Path.{_≡_, refl, sym, ap, ap₂, _∙_, subst}
 use mathlib.Core.Bool.{Bool, true, false, cond}
 use Prim.Native.Nat.{ℕ, zero, suc, _+_, _-_, _^_, _≤_, _<_}
@@ -83,10 +84,12 @@ between a b = go (ltb a b) refl
 -- of two numbers not below R, the greater is the farther
 pub farther : (r v h : ℤ) → ltZ v r ≡ false → ltZ h v ≡ false → natAbs (v -ℤ r) ≤ natAbs (h -ℤ r)
 farther (pos zero) (pos v) (pos h) p q = omega (arith, ltb-false h v q)
-farther (pos (suc r)) (pos v) (pos h) p q = omega (arith, between v (suc r), between h (suc r), ltb-false v (suc r) p, ltb-false h v q)
+farther (pos (suc r)) (pos v) (pos h) p q =
+    omega (arith, between v (suc r), between h (suc r), ltb-false v (suc r) p, ltb-false h v q)
 farther (negsuc r) (pos v) (pos h) p q = omega (arith, ltb-false h v q)
 farther (negsuc r) (negsuc v) (pos h) p q = omega (arith, between (suc r) (suc v), ltb-false r v p)
-farther (negsuc r) (negsuc v) (negsuc h) p q = omega (arith, between (suc r) (suc v), between (suc r) (suc h), ltb-false r v p, ltb-false v h q)
+farther (negsuc r) (negsuc v) (negsuc h) p q =
+    omega (arith, between (suc r) (suc v), between (suc r) (suc h), ltb-false r v p, ltb-false v h q)
 farther (pos r) (negsuc v) h p q = absurd (subst T p tt)
 farther r (pos v) (negsuc h) p q = absurd (subst T q tt)
 

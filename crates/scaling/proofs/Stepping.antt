@@ -3,7 +3,8 @@ use mathlib.Core.Path.{_≡_, refl, sym, ap, _∙_, subst}
 use mathlib.Core.Bool.{Bool, true, false, _&&_}
 use mathlib.Core.Logic.{⊎-elim}
 use Prim.Native.Nat.{ℕ, zero, suc, _+_, _-_, _*_, _/_, _%_, _^_, _<_, _≤_}
-use native.Mathlib.Nat.{div-mul-le-self, le-div-iff-mul-le, div-div-eq-div-mul, add-div-right, div-eq-of-lt, lt-of-lt-of-le, pow-suc}
+use native.Mathlib.Nat.{div-mul-le-self, le-div-iff-mul-le, div-div-eq-div-mul, add-div-right, div-eq-of-lt}
+use native.Mathlib.Nat.{lt-of-lt-of-le, pow-suc}
 use native.Mathlib.Omega.{arith}
 use lib.Dec.{T, leb, eqb}
 use lib.Pow.{pow-pos, pow-mono}
@@ -53,7 +54,8 @@ too-few bits x h l = sym (lt-leb (2 ^ bits) x (lt-of-lt-of-le l (pow-mono {i = 6
 stepped-mono : (e a b : ℕ) → a ≤ b → stepped e a ≤ stepped e b
 unfolding stepped
 stepped-mono zero a b h = h
-stepped-mono (suc e) a b h = le-div-iff-mul-le (pow-pos (suc e)) .1 (omega (arith, div-mul-le-self (a + 2 ^ e) (2 ^ suc e)))
+stepped-mono (suc e) a b h =
+    le-div-iff-mul-le (pow-pos (suc e)) .1 (omega (arith, div-mul-le-self (a + 2 ^ e) (2 ^ suc e)))
 
 stepped-none : (e : ℕ) → stepped e 0 ≡ 0
 unfolding stepped
@@ -67,18 +69,28 @@ module _ (b e : ℕ) (present g : ℕ → ℕ) (n : ℕ) where
 
   -- none is present
   pub wide-none : 0 < b → ((i : ℕ) → i < n → present i ≡ 1 → ⊥) → leb b (stepped e 0) ≡ anyBelow wide n
-  wide-none h none = ap (leb b) (stepped-none e) ∙ lt-leb b 0 h ∙ sym (no-below wide n (λ i l. ap (λ (t : Bool). t && leb b (stepped e (g i))) (ne-eqb (present i) 1 (none i l))))
+  wide-none h none =
+      ap (leb b) (stepped-none e) ∙ lt-leb b 0 h
+      ∙ sym (no-below wide n (λ i l. ap (λ (t : Bool). t && leb b (stepped e (g i))) (ne-eqb (present i) 1 (none i l))))
 
   -- the greatest says it for all
-  pub wide-one : (k : ℕ) → k < n → present k ≡ 1 → ((i : ℕ) → i < n → present i ≡ 1 → g i ≤ g k) → leb b (stepped e (g k)) ≡ anyBelow wide n
+  pub wide-one : (k : ℕ) → k < n → present k ≡ 1 → ((i : ℕ) → i < n → present i ≡ 1 → g i ≤ g k)
+      → leb b (stepped e (g k)) ≡ anyBelow wide n
   wide-one k l here most = go (leb b (stepped e (g k))) refl (anyBelow wide n) refl
     where
       at : wide k ≡ leb b (stepped e (g k))
       at = ap (λ (t : Bool). t && leb b (stepped e (g k))) (eq-eqb (present k) 1 here)
 
-      other : leb b (stepped e (g k)) ≡ false → (i : ℕ) → i < n → (t : Bool) → eqb (present i) 1 ≡ t → (t && leb b (stepped e (g i))) ≡ false
+      other : leb b (stepped e (g k)) ≡ false → (i : ℕ) → i < n → (t : Bool) → eqb (present i) 1 ≡ t
+          → (t && leb b (stepped e (g i))) ≡ false
       other f i m false p = refl
-      other f i m true p = lt-leb b (stepped e (g i)) (omega (arith, leb-false b (stepped e (g k)) f, stepped-mono e (g i) (g k) (most i m (eqb-true (present i) 1 p))))
+      other f i m true p = lt-leb b (stepped e (g i))
+          (omega (
+            arith,
+            leb-false b (stepped e (g k)) f,
+            stepped-mono e (g i) (g k)
+                (most i m (eqb-true (present i) 1 p)),
+          ))
 
       go : (t : Bool) → leb b (stepped e (g k)) ≡ t → (u : Bool) → anyBelow wide n ≡ u → t ≡ u
       go true p true q = refl

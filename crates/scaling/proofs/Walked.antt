@@ -32,7 +32,8 @@ pub passed {ℓ} : {A : Type ℓ} (t : Bool) (x y : A) → t ≡ false → y ≡
 passed t x y h = rw h
 
 -- a test of two numbers, as code reads them back
-pub ordered : (a b : ℤ) → SFits w32 a → SFits w32 b → (t : Bool) → ltZ (toZ w32 (ofZ w32 a)) (toZ w32 (ofZ w32 b)) ≡ t → ltZ a b ≡ t
+pub ordered : (a b : ℤ) → SFits w32 a → SFits w32 b → (t : Bool) → ltZ (toZ w32 (ofZ w32 a)) (toZ w32 (ofZ w32 b)) ≡ t
+    → ltZ a b ≡ t
 ordered a b f g t h = sym (ap₂ ltZ (toZ-ofZ f) (toZ-ofZ g)) ∙ h
 
 -- the shorter of two lengths
@@ -50,7 +51,8 @@ lowest-none numbers marks = refl
 
 module _ (present : ℕ → ℕ) (v : ℕ → ℤ) where
   -- a present point, and an absent one
-  pub lowest-in : (n : ℕ) (low : ℤ) → present n ≡ 1 → low ≡ lowest present v n → lesserOf (v n) low ≡ lowest present v (n + 1)
+  pub lowest-in : (n : ℕ) (low : ℤ) → present n ≡ 1 → low ≡ lowest present v n
+      → lesserOf (v n) low ≡ lowest present v (n + 1)
   unfolding lowest
   lowest-in n low here p = rw (add-one, eq-eqb (present n) 1 here, ← p)
 
@@ -81,7 +83,8 @@ module _ (numbers : List ℤ) (marks : List ℕ) where
     -- a greater one, a present one that is not greater, an absent one
     new-highest : markOf marks n ≡ 1 → ltZ high (at n) ≡ true → Highest numbers marks (suc n) (at n)
     new-highest here l = record {
-      over = upto (λ i. markOf marks i ≡ 1 → ltZ (at n) (at i) ≡ false) n (λ i m q. above-too i (h .over i m q)) (λ _. ltZ-irrefl (at n));
+      over = upto (λ i. markOf marks i ≡ 1 → ltZ (at n) (at i) ≡ false) n (λ i m q. above-too i (h .over i m q))
+          (λ _. ltZ-irrefl (at n));
       from = inr (record { at = n; below = omega arith; here = here; is = refl });
     }
       where
@@ -92,7 +95,8 @@ module _ (numbers : List ℤ) (marks : List ℕ) where
             go true e = absurd (subst T (sym l ∙ not-below high (at i) (at n) q e) tt)
             go false e = refl
 
-    same-highest : mag (at n) < 2 ^ 31 → markOf marks n ≡ 1 → ltZ high (at n) ≡ false → Highest numbers marks (suc n) high
+    same-highest : mag (at n) < 2 ^ 31 → markOf marks n ≡ 1 → ltZ high (at n) ≡ false
+        → Highest numbers marks (suc n) high
     same-highest b here l = record {
       over = upto (λ i. markOf marks i ≡ 1 → ltZ high (at i) ≡ false) n (h .over) (λ _. l);
       from = ⊎-elim
@@ -111,7 +115,8 @@ module _ (numbers : List ℤ) (marks : List ℕ) where
     pub highest-out : (markOf marks n ≡ 1 → ⊥) → Highest numbers marks (n + 1) high
     highest-out absent = rw add-one (record {
       over = upto (λ i. markOf marks i ≡ 1 → ltZ high (at i) ≡ false) n (h .over) (λ q. absurd (absent q));
-      from = ⊎-elim (λ e. inl (upto (λ i. markOf marks i ≡ 1 → ⊥) n (e .0) absent, e .1)) (λ o. inr (has-more n (suc n) high (omega arith) o)) (h .from);
+      from = ⊎-elim (λ e. inl (upto (λ i. markOf marks i ≡ 1 → ⊥) n (e .0) absent, e .1))
+          (λ o. inr (has-more n (suc n) high (omega arith) o)) (h .from);
     })
 
 -- past the end of the marks no point is marked
@@ -129,13 +134,17 @@ module _ (numbers : List ℤ) (marks : List ℕ) where
         same : n ≡ length marks → lowestIn numbers marks n ≡ lowestIn numbers marks m
         same q =
             let s : n + (m - n) ≡ m = omega arith in
-            subst (λ (k : ℕ). lowestIn numbers marks n ≡ lowestIn numbers marks k) s (sym (lowest-past (markOf marks) (λ i. getD numbers i (pos 0)) n (m - n) (λ i g. past i (omega arith))))
+            subst (λ (k : ℕ). lowestIn numbers marks n ≡ lowestIn numbers marks k) s
+            (sym (lowest-past (markOf marks) (λ i. getD numbers i (pos 0)) n (m - n) (λ i g. past i (omega arith))))
 
     pub highest-whole : (z : ℤ) → Highest numbers marks n z → Highest numbers marks m z
     highest-whole z = whole (λ k. Highest numbers marks k z) (λ q h. record {
       over = λ i g here. h .over i (inside q i here) here;
-      from = ⊎-elim (λ p. inl (λ i g here. p .0 i (inside q i here) here, p .1)) (λ o. inr (has-more numbers marks n m z l o)) (h .from);
+      from = ⊎-elim (λ p. inl (λ i g here. p .0 i (inside q i here) here, p .1))
+          (λ o. inr (has-more numbers marks n m z l o)) (h .from);
     })
       where
         inside : n ≡ length marks → (i : ℕ) → markOf marks i ≡ 1 → i < n
-        inside q i here = ⊎-elim (λ (g : i < n). g) (λ (g : n ≤ i). absurd (let z : _≡_ {A = ℕ} 0 1 = sym (past i (omega arith)) ∙ here in omega arith)) (lt-or-ge i n)
+        inside q i here = ⊎-elim (λ (g : i < n). g)
+            (λ (g : n ≤ i). absurd (let z : _≡_ {A = ℕ} 0 1 = sym (past i (omega arith)) ∙ here in omega arith))
+            (lt-or-ge i n)

@@ -1,5 +1,5 @@
-// The packer's choice of R and E, and X at a point. All total. R is the least present number. E is found from the greatest r = V − R alone:
-// X grows with r, so that all X fit in N bits where the greatest does.
+// The packer's choice of R and E, and X at a point. All total. R is the least present number. E is found from the
+// greatest r = V − R alone: X grows with r, so that all X fit in N bits where the greatest does.
 ghost use mathlib.Core.Path.{_≡_};
 ghost use mathlib.Core.Bool.{cond};
 ghost use Prim.Native.Nat.{ℕ, _^_, _<_, _≤_};
@@ -8,7 +8,9 @@ ghost use lib.IntN.{ℤ, pos, natAbs, _-ℤ_};
 ghost use lib.Signed.{mag};
 ghost use lib.ListN.{length, getD};
 ghost use Rattle.rules.specs.Packing.{reference as theReference, exponent as theExponent, stepped};
-ghost use Rattle.scaling.specs.Spread.{lesserOf, greaterOf, folded, someIn, lowestIn, Highest, spreadOf, leastFor};
+ghost use Rattle.scaling.specs.Spread.{lesserOf, greaterOf, folded, someIn, lowestIn, Highest, spreadOf};
+ghost use Rattle.scaling.specs.Spread.{leastFor};
+ghost use Rattle.rules.specs.Checking.{sourceAs};
 use gathering::gather_numbers;
 use marks::none_marked;
 use rules::bounds::SOURCE_MOST;
@@ -47,7 +49,8 @@ pub fn apart(v: i32, r: i32) -> u64
     d as u64
 }
 
-// "X = r for E = 0, else X is the whole part of (r + 2^(E − 1)) / 2^E": the halves of a step that r has, rounded up to whole steps.
+// "X = r for E = 0, else X is the whole part of (r + 2^(E − 1)) / 2^E": the halves of a step that r has, rounded up to
+// whole steps.
 pub fn step(e: u8, r: u64) -> u64
     ensures { λ x. ⌜ x ≡ stepped e r ⌝ }
 {
@@ -71,6 +74,7 @@ fn fills(bits: u8, x: u64) -> bool
     false
 }
 
+// One of two numbers.
 fn pick(here: bool, v: i32, other: i32) -> i32
     ensures { λ r. ⌜ r ≡ cond here v other ⌝ }
 {
@@ -80,6 +84,7 @@ fn pick(here: bool, v: i32, other: i32) -> i32
     other
 }
 
+// The lesser of two.
 fn lesser(a: i32, b: i32) -> i32
     ensures { λ r. ⌜ r ≡ lesserOf a b ⌝ }
 {
@@ -89,6 +94,7 @@ fn lesser(a: i32, b: i32) -> i32
     b
 }
 
+// The greater of two.
 fn greater(a: i32, b: i32) -> i32
     ensures { λ r. ⌜ r ≡ greaterOf a b ⌝ }
 {
@@ -98,6 +104,7 @@ fn greater(a: i32, b: i32) -> i32
     b
 }
 
+// The lesser of two lengths.
 fn shorter(a: usize, b: usize) -> usize
     ensures { λ r. ⌜ r ≡ cond (ltb a b) a b ⌝ }
 {
@@ -136,10 +143,12 @@ fn greatest_of(numbers: &[i32], c: usize, high: i32) -> i32
     greatest
 }
 
-// One walk for all that R and E need: the numbers at the present points of a block are gathered, without a branch on a mark, and the least and
-// the greatest of them found. Marks past their end are 0.
+// One walk for all that R and E need: the numbers at the present points of a block are gathered, without a branch on a
+// mark, and the least and the greatest of them found. Marks past their end are 0.
 fn walk(numbers: &[i32], marks: &[u8]) -> Extremes
-    ensures { λ r. ⌜ (r .marked ≡ someIn (now (marks .entry)) (length (now (numbers .entry)))) × ((r .low ≡ lowestIn (now (numbers .entry)) (now (marks .entry)) (length (now (numbers .entry)))) × Highest (now (numbers .entry)) (now (marks .entry)) (length (now (numbers .entry))) (r .high)) ⌝ }
+    ensures { λ r. ⌜ (r .marked ≡ someIn (now (marks .entry)) (length (now (numbers .entry))))
+        × ((r .low ≡ lowestIn (now (numbers .entry)) (now (marks .entry)) (length (now (numbers .entry))))
+        × Highest (now (numbers .entry)) (now (marks .entry)) (length (now (numbers .entry))) (r .high)) ⌝ }
 {
     let n = shorter(numbers.len(), marks.len());
     let mut held = [0i32; BLOCK];
@@ -173,7 +182,7 @@ fn spread(r: i32, high: i32) -> u64
 
 // "R is the least present V", and 0 where no point is present.
 pub fn reference(numbers: &[i32], marks: &[u8]) -> i32
-    ensures { λ r. ⌜ ((d : ℤ) → r ≡ theReference (record { numbers = now (numbers .entry); marks = now (marks .entry); d = d })) ⌝ }
+    ensures { λ r. ⌜ ((d : ℤ) → r ≡ theReference (sourceAs (now (numbers .entry)) (now (marks .entry)) d)) ⌝ }
 {
     let x = walk(numbers, marks);
     pick(x.marked, x.low, 0)
@@ -195,7 +204,8 @@ fn least_step(bits: u8, r: u64) -> u8
 
 // R and E for a source field, whatever its D is, and bits per value N.
 pub fn choose(numbers: &[i32], marks: &[u8], bits: u8) -> Choice
-    ensures { λ r. ⌜ ((d : ℤ) → (r .reference ≡ theReference (record { numbers = now (numbers .entry); marks = now (marks .entry); d = d })) × (r .exponent ≡ theExponent (record { numbers = now (numbers .entry); marks = now (marks .entry); d = d }) bits)) ⌝ }
+    ensures { λ r. ⌜ ((d : ℤ) → (r .reference ≡ theReference (sourceAs (now (numbers .entry)) (now (marks .entry)) d))
+        × (r .exponent ≡ theExponent (sourceAs (now (numbers .entry)) (now (marks .entry)) d) bits)) ⌝ }
 {
     let x = walk(numbers, marks);
     let r = pick(x.marked, x.low, 0);

@@ -1,5 +1,6 @@
--- The numbers at the present points of a block, gathered: as many as are present, in order at the front of the list held; and a test of each of
--- them is a test of each present point. By induction on the points, each of them present or absent.
+-- The numbers at the present points of a block, gathered: as many as are present, in order at the front of the list
+-- held; and a test of each of them is a test of each present point. By induction on the points, each of them present or
+-- absent.
 use mathlib.Core.Path.{_≡_, refl, sym, ap, ap₂, _∙_, subst}
 use mathlib.Core.Bool.{Bool, true, false, cond, _||_, _&&_}
 use mathlib.Core.List.{List, [], _∷_}
@@ -33,7 +34,8 @@ pub any-more : (f : ℕ → Bool) (i c : ℕ) → anyBelow f i || anyBelow (λ j
 unfolding anyBelow
 any-more f i zero = or-nothing (anyBelow f i) ∙ ap (anyBelow f) (sym (add-zero i))
 any-more f i (suc c) =
-    sym (or-assoc (anyBelow f i) (anyBelow (λ j. f (i + j)) c) (f (i + c))) ∙ ap (λ (b : Bool). b || f (i + c)) (any-more f i c) ∙ ap (anyBelow f) (far-suc i c)
+    sym (or-assoc (anyBelow f i) (anyBelow (λ j. f (i + j)) c) (f (i + c)))
+    ∙ ap (λ (b : Bool). b || f (i + c)) (any-more f i c) ∙ ap (anyBelow f) (far-suc i c)
   where
     or-assoc : (a b d : Bool) → (a || b) || d ≡ a || (b || d)
     or-assoc true b d = refl
@@ -50,14 +52,17 @@ module _ {A : Type 0} (f : ℕ → ℕ) (b : Bits f) (v : ℕ → A) (z : A) (g 
   tested : ℕ → Bool
   tested n = anyBelow (λ k. g k (getD (all n) k z)) (count f 0 n)
 
-  one-more : (n : ℕ) → f n ≡ 1 → anyBelow (λ k. g k (getD (all (n + 1)) k z)) (suc (count f 0 n)) ≡ tested n || g (count f 0 n) (v n)
+  one-more : (n : ℕ) → f n ≡ 1
+      → anyBelow (λ k. g k (getD (all (n + 1)) k z)) (suc (count f 0 n)) ≡ tested n || g (count f 0 n) (v n)
   unfolding anyBelow tested
   one-more n h =
       let e = gathered-in f v n h in
       ap₂ (λ (x y : Bool). x || y)
       (any-ext _ _ (count f 0 n) (λ k l. ap (g k) (ap (λ (xs : List A). getD xs k z) e
       ∙ List·getD-append (all n) (v n ∷ []) z k (subst (λ (x : ℕ). k < x) (sym (length-gathered-of f b v n)) l))))
-      (ap (g (count f 0 n)) (ap (λ (xs : List A). getD xs (count f 0 n) z) e ∙ getD-at (all n) (v n) [] z (count f 0 n) (length-gathered-of f b v n)))
+      (ap (g (count f 0 n))
+      (ap (λ (xs : List A). getD xs (count f 0 n) z) e
+      ∙ getD-at (all n) (v n) [] z (count f 0 n) (length-gathered-of f b v n)))
 
   tested-in : (n : ℕ) → f n ≡ 1 → tested (n + 1) ≡ tested n || (eqb (f n) 1 && g (count f 0 n) (v n))
   unfolding tested
@@ -94,14 +99,16 @@ module _ (block : List ℤ) (marks : List ℕ) (i : ℕ) where
   fit first = gatherFits c (length first) i (length marks)
 
   pub gathered-block : (m : ℕ) (first held : List ℤ) → i + c ≤ length marks → c ≤ length first
-      → m ≡ cond (fit first) (count (hereFrom marks i) 0 c) 0 → held ≡ cond (fit first) (gatherInto (hereFrom marks i) at c first) first
+      → m ≡ cond (fit first) (count (hereFrom marks i) 0 c) 0
+      → held ≡ cond (fit first) (gatherInto (hereFrom marks i) at c first) first
       → Gathered block marks i m held
   gathered-block m first held k r em eh =
       let t : fit first ≡ true = fits-so c (length first) i (length marks) r k in
       let n : m ≡ count (hereFrom marks i) 0 c = em ∙ ap (λ (b : Bool). cond b (count (hereFrom marks i) 0 c) 0) t in
       let h : held ≡ gatherInto (hereFrom marks i) at c first = eh ∙ ap (λ (b : Bool). cond b (gatherInto (hereFrom marks i) at c first) first) t in record {
         many = n;
-        front = ap₂ (λ (x : ℕ) (xs : List ℤ). take x xs) n h ∙ gather-front (hereFrom marks i) (here-from-bits marks i) at first c r;
+        front = ap₂ (λ (x : ℕ) (xs : List ℤ). take x xs) n h
+            ∙ gather-front (hereFrom marks i) (here-from-bits marks i) at first c r;
       }
 
   module _ (m : ℕ) (held : List ℤ) (h : Gathered block marks i m held) where
@@ -110,13 +117,16 @@ module _ (block : List ℤ) (marks : List ℕ) (i : ℕ) where
 
     -- a test of each number held
     pub any-block : (g : ℕ → ℤ → Bool)
-        → anyBelow (λ k. g k (getD held k (pos 0))) m ≡ anyBelow (λ j. eqb (markOf marks (i + j)) 1 && g (count (hereFrom marks i) 0 j) (at j)) c
+        → anyBelow (λ k. g k (getD held k (pos 0))) m
+        ≡ anyBelow (λ j. eqb (markOf marks (i + j)) 1 && g (count (hereFrom marks i) 0 j) (at j)) c
     unfolding tested
     any-block g =
-        any-ext _ _ m (λ k l. ap (g k) (sym (getD-take m held k (pos 0) l) ∙ ap (λ (xs : List ℤ). getD xs k (pos 0)) (h .front)))
+        any-ext _ _ m
+        (λ k l. ap (g k) (sym (getD-take m held k (pos 0) l) ∙ ap (λ (xs : List ℤ). getD xs k (pos 0)) (h .front)))
         ∙ ap (anyBelow (λ k. g k (getD (gatheredOf (hereFrom marks i) at c) k (pos 0)))) (h .many)
         ∙ any-gathered (hereFrom marks i) (here-from-bits marks i) at (pos 0) g c
-        ∙ any-ext _ _ c (λ j l. ap (λ (t : Bool). t && g (count (hereFrom marks i) 0 j) (at j)) (here-one marks (i + j)))
+        ∙ any-ext _ _ c
+        (λ j l. ap (λ (t : Bool). t && g (count (hereFrom marks i) 0 j) (at j)) (here-one marks (i + j)))
 
 -- a block as a part of all numbers
 module _ (numbers : List ℤ) (i c : ℕ) (l : i + c ≤ length numbers) where
@@ -132,13 +142,16 @@ module _ (numbers : List ℤ) (i c : ℕ) (l : i + c ≤ length numbers) where
   pub part-at : (j : ℕ) → j < c → getD part j (pos 0) ≡ getD numbers (i + j) (pos 0)
   part-at j k = getD-take (i + c - i) (drop i numbers) j (pos 0) (omega arith) ∙ getD-drop i numbers j (pos 0)
 
-  pub any-part : (f : ℕ → ℤ → Bool) → anyBelow (λ j. f j (getD part j (pos 0))) (length part) ≡ anyBelow (λ j. f j (getD numbers (i + j) (pos 0))) c
+  pub any-part : (f : ℕ → ℤ → Bool)
+      → anyBelow (λ j. f j (getD part j (pos 0))) (length part) ≡ anyBelow (λ j. f j (getD numbers (i + j) (pos 0))) c
   any-part f = ap (anyBelow (λ j. f j (getD part j (pos 0)))) part-long ∙ any-ext _ _ c (λ j k. ap (f j) (part-at j k))
 
 -- presence counted from a point on
-pub count-from : (marks : List ℕ) (i j : ℕ) → count (here marks) 0 i + count (hereFrom marks i) 0 j ≡ count (here marks) 0 (i + j)
+pub count-from : (marks : List ℕ) (i j : ℕ)
+    → count (here marks) 0 i + count (hereFrom marks i) 0 j ≡ count (here marks) 0 (i + j)
 count-from marks i j =
-    ap (λ (x : ℕ). count (here marks) 0 i + x) (count-ext (hereFrom marks i) (here marks) 0 (0 + i) j (λ k l. ap (here marks) (same i k)))
+    ap (λ (x : ℕ). count (here marks) 0 i + x)
+    (count-ext (hereFrom marks i) (here marks) 0 (0 + i) j (λ k l. ap (here marks) (same i k)))
     ∙ sym (count-split (here marks) 0 i j)
   where
     same : (a k : ℕ) → a + (0 + k) ≡ 0 + a + k

@@ -1,9 +1,11 @@
--- A whole number spelt as R: B is moved up a hex digit at a time until its first one is not 0, and what is left of A counts the digits.
+-- A whole number spelt as R: B is moved up a hex digit at a time until its first one is not 0, and what is left of A
+-- counts the digits.
 use mathlib.Core.Path.{_≡_, refl, sym, ap, ap₂, _∙_, subst}
 use mathlib.Core.Bool.{Bool, true, false}
 use mathlib.Core.Logic.{⊎-elim}
 use Prim.Native.Nat.{ℕ, suc, _+_, _-_, _*_, _^_, _<_, _≤_}
-use native.Mathlib.Nat.{mul-assoc, mul-one, pow-suc, mul-lt-mul-of-pos-right, lt-of-mul-lt-mul-right, one-le-pow, pow-le-pow-right, lt-of-lt-of-le}
+use native.Mathlib.Nat.{mul-assoc, mul-one, pow-suc, mul-lt-mul-of-pos-right, lt-of-mul-lt-mul-right, one-le-pow}
+use native.Mathlib.Nat.{pow-le-pow-right, lt-of-lt-of-le}
 use native.Mathlib.Omega.{arith}
 use lib.Dec.{T, ltb, lit<, lit≤}
 use lib.Pow.{pow-add}
@@ -46,7 +48,8 @@ goes-on size a b n h l =
     record {
       low = omega arith;
       high = omega (arith, h .high);
-      is = ap (λ (x : ℕ). x * 16) (h .is) ∙ mul-assoc size (16 ^ (70 - a)) 16 ∙ ap (λ (x : ℕ). size * x) (sym (ap (λ (x : ℕ). 16 ^ x) d ∙ pow-suc 16 (70 - a)));
+      is = ap (λ (x : ℕ). x * 16) (h .is) ∙ mul-assoc size (16 ^ (70 - a)) 16
+          ∙ ap (λ (x : ℕ). size * x) (sym (ap (λ (x : ℕ). 16 ^ x) d ∙ pow-suc 16 (70 - a)));
       under = subst (λ (x : ℕ). size < 16 ^ x) (sym f) u;
     }
 
@@ -55,7 +58,8 @@ module _ (size a b : ℕ) (h : Spells size a b) where
   b-less =
       let e : a - 64 + (70 - a) ≡ 6 = omega (arith, h .low, h .high) in
       subst (λ (x : ℕ). x < 16777216) (sym (h .is))
-      (subst (λ (x : ℕ). size * 16 ^ (70 - a) < x) (sym (pow-add 16 (a - 64) (70 - a)) ∙ ap (λ (x : ℕ). 16 ^ x) e) (mul-lt-mul-of-pos-right (h .under) (one-le-pow (70 - a) 16 (lit< tt))))
+      (subst (λ (x : ℕ). size * 16 ^ (70 - a) < x) (sym (pow-add 16 (a - 64) (70 - a)) ∙ ap (λ (x : ℕ). 16 ^ x) e)
+      (mul-lt-mul-of-pos-right (h .under) (one-le-pow (70 - a) 16 (lit< tt))))
 
   -- the hex digits of the size are a - 64
   digits : 1048576 ≤ b → leastBelow (λ k. ltb size (16 ^ k)) 6 ≡ a - 64
@@ -65,8 +69,10 @@ module _ (size a b : ℕ) (h : Spells size a b) where
       let q = leastBelow f 6 in
       let t : f (a - 64) ≡ true = lt-ltb size (16 ^ (a - 64)) (h .under) in
       ⊎-elim
-      (λ (l : q < a - 64). absurd (fewer q (omega (arith, h .high)) l (ltb-true _ _ (o .passes (omega (arith, h .high))))))
-      (λ l. ⊎-elim (λ (m : a - 64 < q). absurd (subst T (sym t ∙ o .before (a - 64) m) tt)) (λ m. omega arith) (lt-or-ge (a - 64) q))
+      (λ (l : q < a - 64). absurd
+      (fewer q (omega (arith, h .high)) l (ltb-true _ _ (o .passes (omega (arith, h .high))))))
+      (λ l. ⊎-elim (λ (m : a - 64 < q). absurd (subst T (sym t ∙ o .before (a - 64) m) tt)) (λ m. omega arith)
+      (lt-or-ge (a - 64) q))
       (lt-or-ge q (a - 64))
     where
       -- no fewer digits hold it
@@ -75,7 +81,8 @@ module _ (size a b : ℕ) (h : Spells size a b) where
           let e : 70 - a + k ≤ 5 = omega (arith, h .low, h .high) in
           let p : size * 16 ^ (70 - a) < 1048576 =
           lt-of-lt-of-le (mul-lt-mul-of-pos-right u (one-le-pow (70 - a) 16 (lit< tt)))
-          (subst (λ (x : ℕ). x ≤ 1048576) (pow-add 16 k (70 - a)) (pow-le-pow-right (lit< tt) {i = k + (70 - a)} {j = 5} (omega arith))) in
+          (subst (λ (x : ℕ). x ≤ 1048576) (pow-add 16 k (70 - a))
+          (pow-le-pow-right (lit< tt) {i = k + (70 - a)} {j = 5} (omega arith))) in
           omega (arith, p, h .is, g)
 
   pub ends : 1048576 ≤ b → a * 16777216 + b ≡ spelt size
@@ -144,7 +151,10 @@ module _ (z : ℤ) (f : SFits w32 z) where
       kept-size = let k = kept z (plain (ltZ (pos 0)) true l) in (toZ-ofZ f ∙ k .0, (k .1, most))
 
       pub plus-is : (r : ℕ) → r ≡ spelt (natAbs v) → r ≡ spellingFrom z
-      plus-is r e = e ∙ ap (λ (x : ℤ). spelt (natAbs x)) (toZ-ofZ f) ∙ plus z (plain (beyond sourceMost) false h) (plain (ltZ (pos 0)) true l)
+      plus-is r e = e ∙ ap (λ (x : ℤ). spelt (natAbs x)) (toZ-ofZ f)
+          ∙ plus z (plain (beyond sourceMost) false h) (plain (ltZ (pos 0)) true l)
 
     pub neither-is : ltZ v (pos 0) ≡ false → ltZ (pos 0) v ≡ false → 0 ≡ spellingFrom z
-    neither-is l m = neither z (plain (beyond sourceMost) false h) (plain (λ (x : ℤ). ltZ x (pos 0)) false l) (plain (ltZ (pos 0)) false m)
+    neither-is l m =
+        neither z (plain (beyond sourceMost) false h) (plain (λ (x : ℤ). ltZ x (pos 0)) false l)
+        (plain (ltZ (pos 0)) false m)

@@ -1,4 +1,5 @@
--- R as a whole number within the bound of source numbers: what is answered where R is none, or where a number has no such R.
+-- R as a whole number within the bound of source numbers: what is answered where R is none, or where a number has no
+-- such R.
 use Prim.Native.Nat.{ℕ, _+_, _-_, _*_, _/_, _%_, _^_}
 use mathlib.Core.Bool.{Bool, false, not, _||_, cond}
 use mathlib.Core.Path.{_≡_}
@@ -27,6 +28,6 @@ unfoldable pub spelt : ℕ → ℕ
 spelt n = let h = leastBelow (λ k. ltb n (16 ^ k)) 6 in (64 + h) * 2 ^ 24 + n * 16 ^ (6 - h)
 
 -- p parts of 16^5 say of a word whether it is a whole number, and which
-pub record Parts (r p : ℕ) : Type 0 where
+pub record SaysWhole (r p : ℕ) : Type 0 where
   pub bad : not (eqb (p % 1048576) 0) || ltb (sourceMost * 1048576) p ≡ wholeBad r
   pub size : wholeBad r ≡ false → p / 1048576 ≡ sizeOf r / unit

@@ -1,4 +1,5 @@
-// The source field that the checker and the packer take: whole numbers, marks and D. Refusal 18, and R as a whole number. All total.
+// The source field that the checker and the packer take: whole numbers, marks and D. Refusal 18, and R as a whole
+// number. All total.
 ghost use mathlib.Core.Path.{_≡_};
 ghost use Prim.Native.Nat.{_<_, _≤_};
 ghost use lib.IntN.{ℤ, pos};
@@ -8,7 +9,7 @@ ghost use Rattle.rules.specs.Table.{anyOf};
 ghost use Rattle.rules.specs.Bitmap.{marksLong};
 ghost use Rattle.rules.specs.Bounds.{sourceMost};
 ghost use Rattle.rules.specs.Numbers.{beyond};
-ghost use Rattle.rules.specs.Checking.{sourceFaults, decimalDiffers};
+ghost use Rattle.rules.specs.Checking.{sourceFaults, decimalDiffers, sourceAs};
 ghost use Rattle.source.specs.Present.{far};
 
 mod whole; // whole.rt: R read as a whole number, and a whole number spelt as R
@@ -74,9 +75,10 @@ fn present_large(numbers: &[i32], marks: &[u8]) -> bool
     far
 }
 
-// Refusal 18, whatever D is.
+// Refusal 18, whatever D is: lists unequal or of a length that is not taken, a mark that is none, a present number over
+// its bound.
 pub fn source_bad(numbers: &[i32], marks: &[u8]) -> bool
-    ensures { λ r. ⌜ ((d : ℤ) → r ≡ anyOf (sourceFaults (record { numbers = now (numbers .entry); marks = now (marks .entry); d = d }))) ⌝ }
+    ensures { λ r. ⌜ ((d : ℤ) → r ≡ anyOf (sourceFaults (sourceAs (now (numbers .entry)) (now (marks .entry)) d))) ⌝ }
 {
     let many = numbers.len();
     if (many < 1) | ((POINTS_MOST as usize) < many) {

@@ -1,9 +1,10 @@
-// R = (−1)^s × B × 16^(A − 64) / 2^24 as a whole number of at most 8,388,607 in magnitude. With B = 0 it is 0. Else A is from 65 to 75: with a
-// lower one R is below 1 and with a higher one at least 16^6. For these B × 16^(A − 65) fits in 64 bits, and R is that many parts of 16^5.
+// R = (−1)^s × B × 16^(A − 64) / 2^24 as a whole number of at most 8,388,607 in magnitude. With B = 0 it is 0. Else A
+// is from 65 to 75: with a lower one R is below 1 and with a higher one at least 16^6. For these B × 16^(A − 65) fits
+// in 64 bits, and R is that many parts of 16^5.
 ghost use mathlib.Core.Path.{_≡_};
 ghost use Prim.Native.Nat.{_^_, _<_, _≤_};
 ghost use Rattle.rules.specs.Bounds.{sourceMost};
-ghost use Rattle.source.specs.Whole.{Parts, wholeBad, wholeFrom, spelt as theSpelt, spellingFrom};
+ghost use Rattle.source.specs.Whole.{SaysWhole, wholeBad, wholeFrom, spelt as theSpelt, spellingFrom};
 use crate::large;
 use rules::bounds::SOURCE_MOST;
 
@@ -12,7 +13,7 @@ const PART: u64 = 1048576;
 
 // How many parts of 16^5 R's size is; 1, no whole number, where R cannot be one within the bound.
 fn parts(word: u32) -> u64
-    ensures { λ r. ⌜ Parts word r ⌝ }
+    ensures { λ r. ⌜ SaysWhole word r ⌝ }
 {
     let a = word / 16777216 % 128;
     let b = word % 16777216;
@@ -64,7 +65,8 @@ fn spelt(size: u32) -> u32
     a * 16777216 + b
 }
 
-// R's four octets for a whole number, "with leading hex digit not zero, and zero as 32 zero bits"; 0 too for a number over the bound.
+// R's four octets for a whole number, "with leading hex digit not zero, and zero as 32 zero bits"; 0 too for a number
+// over the bound.
 pub fn spelling(z: i32) -> u32
     ensures { λ r. ⌜ r ≡ spellingFrom z ⌝ }
 {

@@ -1,4 +1,5 @@
--- Our codec meets every demand: each is a theorem of `theorems`, and a reply is its table's by the definition of the answer.
+-- Our codec meets every demand: each is a theorem of `theorems`, and a reply is its table's by the definition of the
+-- answer.
 use Prim.Native.Nat.{ℕ, _≤_}
 use mathlib.Core.Bool.{Bool, true, false, cond}
 use mathlib.Core.Path.{_≡_, refl, sym, subst, _∙_, ap}
@@ -9,7 +10,8 @@ use lib.ListN.{length}
 use Rattle.rules.specs.declared.{Refusal.Refusal}
 use Rattle.rules.specs.Table.{refusal, accepted, filled}
 use Rattle.rules.specs.Bitmap.{Lent}
-use Rattle.rules.specs.Reading.{presentCount, foundBy, foundIn, refusedBy, answerBy, readRefusal, readOf, valuesAfter, marksAfter}
+use Rattle.rules.specs.Reading.{presentCount, foundBy, foundIn, refusedBy, answerBy, readRefusal, readOf, valuesAfter}
+use Rattle.rules.specs.Reading.{marksAfter}
 use Rattle.rules.specs.Writing.{lengthOf, writeRefusal, writeOf, outputAfter}
 use Rattle.rules.specs.Checking.{checkOf}
 use Rattle.rules.specs.Packing.{packRefusal, packOf, packedAfter}
@@ -22,7 +24,9 @@ use Rattle.theorems.proofs.Points.{value-at-point, read-keeps}
 use Rattle.theorems.proofs.Reoffered.{points-for}
 use Rattle.theorems.proofs.Checked.{check-exactly}
 use Rattle.theorems.proofs.Packs.{packed-passes, pack-exactly}
-use Rattle.standins.specs.Codec.{RepliesByTable, WrittenNothing, RefusalKeeps, ReadsAll, ValuesAtPoints, LaterStay, CountsPresent, ReadsBack, WritesBack, ChecksExactly, PackedPasses, PacksExactly, Meets}
+use Rattle.standins.specs.Codec.{RepliesByTable, WrittenNothing, KeepsWhenRefused, ReadsAll, ValuesAtPoints}
+use Rattle.standins.specs.Codec.{LaterStay, CountsPresent, ReadsBack, WritesBack, ChecksExactly, PassesCheck}
+use Rattle.standins.specs.Codec.{PacksExactly, Meets}
 use Rattle.standins.specs.Standins.{ours}
 
 -- a header has the reply that it was answered by
@@ -31,7 +35,9 @@ unfolding answerBy foundIn foundBy refusedBy
 told-reply r s lent = go (accepted r) refl
   where
     go : (b : Bool) → accepted r ≡ b → cond (accepted r) (foundIn s lent) (refusedBy r) .refusal ≡ r
-    go true e = ap (λ (b : Bool). cond b (foundIn s lent) (refusedBy r) .refusal) e ∙ ap refusal (sym (eqb-true (r .number) 0 e))
+    go true e =
+        ap (λ (b : Bool). cond b (foundIn s lent) (refusedBy r) .refusal) e
+        ∙ ap refusal (sym (eqb-true (r .number) 0 e))
     go false e = ap (λ (b : Bool). cond b (foundIn s lent) (refusedBy r) .refusal) e
 
 module _ (s : List ℕ) (lent : Lent) (values marks : List ℕ) where
@@ -45,7 +51,8 @@ module _ (s : List ℕ) (lent : Lent) (values marks : List ℕ) where
 reads : ReadsAll ours
 reads s lent t values marks rv rm =
     let n = points-for s lent t in
-    read-tells s lent values marks t (subst (λ (k : ℕ). k ≤ length values) n rv) (subst (λ (k : ℕ). k ≤ length marks) n rm)
+    read-tells s lent values marks t (subst (λ (k : ℕ). k ≤ length values) n rv)
+    (subst (λ (k : ℕ). k ≤ length marks) n rm)
 
 points : ValuesAtPoints ours
 points s lent values marks a = value-at-point s lent values marks (read-by s lent values marks a)
@@ -57,7 +64,8 @@ counts : CountsPresent ours
 unfolding readOf answerBy foundIn foundBy presentCount
 counts s lent values marks a =
     let r = readRefusal s lent values marks in
-    ap (λ (b : Bool). cond b (foundIn s lent) (refusedBy r) .present) (is-true (accepted r) (read-by s lent values marks a))
+    ap (λ (b : Bool). cond b (foundIn s lent) (refusedBy r) .present)
+    (is-true (accepted r) (read-by s lent values marks a))
 
 back : ReadsBack ours
 unfolding writeOf lengthOf
@@ -76,7 +84,7 @@ packs : PacksExactly ours
 unfolding packOf lengthOf
 packs pds form lent f out = pack-exactly pds form lent f out
 
-passes : PackedPasses ours
+passes : PassesCheck ours
 unfolding packOf lengthOf
 passes pds form lent f out gf nf a = check-exactly _ lent f .0 (packed-passes pds form lent f out gf nf a)
 
@@ -89,14 +97,18 @@ none-written : (r : Refusal) (m out : List ℕ) → WrittenNothing (lengthOf r m
 unfolding lengthOf
 none-written r m out e = (ap (λ (b : Bool). cond b (length m) 0) e, refusal-keeps r m out e)
 
-keeps : RefusalKeeps ours
+keeps : KeepsWhenRefused ours
 unfolding readOf answerBy valuesAfter marksAfter writeOf outputAfter packOf packedAfter
 keeps = record {
   reader = λ s lent values marks e.
       let r = readRefusal s lent values marks in
       let q = read-reply s lent values marks in
-      let n : accepted r ≡ false = ap accepted (sym q) ∙ e in
-      (ap (λ (b : Bool). cond b (foundIn s lent) (refusedBy r)) n ∙ ap refusedBy (sym q), refusal-keeps r _ values n, refusal-keeps r _ marks n);
+      let n : accepted r ≡ false = ap accepted (sym q) ∙ e in (
+        ap (λ (b : Bool). cond b (foundIn s lent) (refusedBy r)) n
+            ∙ ap refusedBy (sym q),
+        refusal-keeps r _ values n,
+        refusal-keeps r _ marks n,
+      );
   writer = λ w out. none-written (writeRefusal w out) _ out;
   packer = λ pds form lent f out. none-written (packRefusal pds form lent f out) _ out;
 }

@@ -1,4 +1,5 @@
--- No stand-in meets the demand that document 01 names for it: each answers the specimen, or a message, parts or a source near it, otherwise than the demand says; by computing.
+-- No stand-in meets the demand that document 01 names for it: each answers the specimen, or a message, parts or a
+-- source near it, otherwise than the demand says; by computing.
 use Prim.Native.Nat.{ℕ}
 use mathlib.Core.Bool.{false}
 use mathlib.Core.Path.{_≡_, refl, ap}
@@ -14,8 +15,10 @@ use Rattle.rules.proofs.Specimen.{form, parts, source}
 use Rattle.theorems.specs.Returns.{GridFits}
 use Rattle.theorems.proofs.Checked.{check-exactly}
 use Rattle.theorems.proofs.Packs.{pack-exactly}
-use Rattle.standins.specs.Codec.{ReadsAll, ValuesAtPoints, CountsPresent, ReadsBack, ChecksExactly, PackedPasses, PacksExactly, RepliesByTable}
-use Rattle.standins.specs.Standins.{refusesAll, fixedField, firstRepeated, countInvented, misplacesSections, writesNothing, alwaysYes, alwaysNo, packsNothing, roundsDown, Rejected}
+use Rattle.standins.specs.Codec.{ReadsAll, ValuesAtPoints, CountsPresent, ReadsBack, ChecksExactly, PassesCheck}
+use Rattle.standins.specs.Codec.{PacksExactly, RepliesByTable}
+use Rattle.standins.specs.Standins.{refusesAll, fixedField, firstRepeated, countInvented, misplacesSections}
+use Rattle.standins.specs.Standins.{writesNothing, alwaysYes, alwaysNo, packsNothing, roundsDown, Rejected}
 
 -- lists with room for the specimen's points
 abbrev room : List ℕ
@@ -33,7 +36,9 @@ refuses-all h = refused 1 refl (h specimen nothing tt room room (le-refl 4) (le-
 -- the specimen with another first value: 1, where the fixed field has 0
 fixed-field : ReadsAll fixedField → ⊥
 unfolding computes
-fixed-field h = eqb-false 0 1 refl (ap (λ (v : List ℕ). getD v 0 0) (h (set specimen 87 0x2b) nothing tt room room (le-refl 4) (le-refl 4) .each))
+fixed-field h =
+    eqb-false 0 1 refl
+    (ap (λ (v : List ℕ). getD v 0 0) (h (set specimen 87 0x2b) nothing tt room room (le-refl 4) (le-refl 4) .each))
 
 -- the specimen's last point: 7, where the first value is 0
 first-repeated : ValuesAtPoints firstRepeated → ⊥
@@ -48,10 +53,13 @@ count-invented h = eqb-false 4 3 refl (h specimen nothing room room tt)
 -- the specimen's GDS starts at 36, where its PDS, from 8 on, ends
 misplaces-sections : ReadsAll misplacesSections → ⊥
 unfolding computes
-misplaces-sections h = eqb-false 8 36 refl (ap (λ (p : Places). p .gds .start) (h specimen nothing tt room room (le-refl 4) (le-refl 4) .places))
+misplaces-sections h =
+    eqb-false 8 36 refl
+    (ap (λ (p : Places). p .gds .start) (h specimen nothing tt room room (le-refl 4) (le-refl 4) .places))
 
 grid-fits : GridFits (form .grid)
-grid-fits = (record { ni = lit< tt; nj = lit< tt; scan = lit< tt }, record { flags = lit< tt; di = lit< tt; dj = lit< tt })
+grid-fits =
+    (record { ni = lit< tt; nj = lit< tt; scan = lit< tt }, record { flags = lit< tt; di = lit< tt; dj = lit< tt })
 
 -- the specimen's parts: what stood in the output is no message
 writes-nothing : ReadsBack writesNothing → ⊥
@@ -68,7 +76,7 @@ unfolding computes
 always-no h = refused 17 refl (h specimen nothing source .1 (check-exactly specimen nothing source .0 refl))
 
 -- no message is written, so none fails the check; but the specimen's source can be packed
-packs-nothing-passes : PackedPasses packsNothing
+packs-nothing-passes : PassesCheck packsNothing
 packs-nothing-passes pds form lent f out gf nf a = absurd a
 
 packs-nothing : RepliesByTable packsNothing → ⊥
@@ -77,15 +85,18 @@ packs-nothing h = refused 19 refl (h .packer (parts .pds) form nothing source sp
 
 packs-nothing-exactly : PacksExactly packsNothing → ⊥
 unfolding computes
-packs-nothing-exactly h = h (parts .pds) form nothing source specimen .1 (pack-exactly (parts .pds) form nothing source specimen .0 tt)
+packs-nothing-exactly h =
+    h (parts .pds) form nothing source specimen .1 (pack-exactly (parts .pds) form nothing source specimen .0 tt)
 
 -- the specimen's source in two bits: E = 2, and r = 7 would be packed as 1, which is 3 away of the 2 allowed
 abbrev two-bits : Form
 two-bits = record { grid = form .grid; bitmap = form .bitmap; packing = record { flags = 0; bits = 2 } }
 
-rounds-down : PackedPasses roundsDown → ⊥
+rounds-down : PassesCheck roundsDown → ⊥
 unfolding computes
-rounds-down h = refused 17 refl (check-exactly _ nothing source .1 (h (parts .pds) two-bits nothing source specimen grid-fits tt tt))
+rounds-down h =
+    refused 17 refl
+    (check-exactly _ nothing source .1 (h (parts .pds) two-bits nothing source specimen grid-fits tt tt))
 
 pub rejected : Rejected
 rejected = record {

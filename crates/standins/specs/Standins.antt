@@ -1,4 +1,5 @@
--- Document 01, "Name these stand-ins and show which rule rejects each": our codec, each stand-in as our codec with other answers in one place, and the demand that rejects it.
+-- Document 01, "Name these stand-ins and show which rule rejects each": our codec, each stand-in as our codec with
+-- other answers in one place, and the demand that rejects it.
 use Prim.Native.Nat.{ℕ, _/_, _^_}
 use mathlib.Core.Bool.{cond}
 use mathlib.Core.List.{List, [], _∷_}
@@ -6,18 +7,21 @@ use lib.Dec.{eqb}
 use lib.IntN.{ℤ, pos, negsuc}
 use lib.ListN.{length, getD}
 use Rattle.bits.specs.Tables.{tab}
-use Rattle.rules.specs.declared.{Refusal.Refusal, Signed.Signed, Header.Header, Form.Form, Written.Written, Bitmap.the-variants.Carried}
+use Rattle.rules.specs.declared.{Refusal.Refusal, Signed.Signed, Header.Header, Form.Form, Written.Written}
+use Rattle.rules.specs.declared.{Bitmap.the-variants.Carried}
 use Rattle.rules.specs.Numbers.{plain}
 use Rattle.rules.specs.Table.{refusal, filled}
 use Rattle.rules.specs.Places.{placesOf}
 use Rattle.rules.specs.Bitmap.{Lent}
 use Rattle.rules.specs.Points.{scattered}
 use Rattle.rules.specs.Values.{valuesAt}
-use Rattle.rules.specs.Reading.{pointsIn, presentIn, presentCount, packingIn, refusedBy, readRefusal, readOf, valuesAfter, marksAfter}
+use Rattle.rules.specs.Reading.{pointsIn, presentIn, presentCount, packingIn, refusedBy, readRefusal, readOf}
+use Rattle.rules.specs.Reading.{valuesAfter, marksAfter}
 use Rattle.rules.specs.Writing.{Parts, message, lengthOf, writeOf, outputAfter}
 use Rattle.rules.specs.Checking.{Source, presentOf, checkOf}
-use Rattle.rules.specs.Packing.{above, exponent, packed, packRefusal, packOf, packedAfter}
-use Rattle.standins.specs.Codec.{Codec, ReadsAll, ValuesAtPoints, CountsPresent, ReadsBack, ChecksExactly, PackedPasses, PacksExactly, RepliesByTable}
+use Rattle.rules.specs.Packing.{above, exponent, packedParts, packRefusal, packOf, packedAfter}
+use Rattle.standins.specs.Codec.{Codec, ReadsAll, ValuesAtPoints, CountsPresent, ReadsBack, ChecksExactly}
+use Rattle.standins.specs.Codec.{PassesCheck, PacksExactly, RepliesByTable}
 
 -- what stands for a reader: nothing is read
 abbrev pub refusing : List ℕ → Lent → List ℕ → List ℕ → Header
@@ -54,11 +58,12 @@ fixedValues s lent values marks = filled (refusal 0) (0 ∷ 2 ∷ 0 ∷ 7 ∷ []
 abbrev pub fixedMarks : List ℕ → Lent → List ℕ → List ℕ → List ℕ
 fixedMarks s lent values marks = filled (refusal 0) (1 ∷ 1 ∷ 0 ∷ 1 ∷ []) marks
 
--- the first value unpacked, at every present point
+-- the first value outKept, at every present point
 abbrev pub repeatedValues : List ℕ → Lent → List ℕ → List ℕ → List ℕ
 repeatedValues s lent values marks =
     let x = getD (valuesAt s (placesOf s .bds .start) (packingIn s .bits) 1) 0 0 in
-    filled (readRefusal s lent values marks) (scattered (presentIn s lent) (tab (λ k. x) (presentCount s lent)) (pointsIn s)) values
+    filled (readRefusal s lent values marks)
+    (scattered (presentIn s lent) (tab (λ k. x) (presentCount s lent)) (pointsIn s)) values
 
 -- as many present points as there are points
 abbrev pub inventedHeader : List ℕ → Lent → List ℕ → List ℕ → Header
@@ -110,18 +115,19 @@ noAlways s lent f = refusal 17
 abbrev pub unpacking : List ℕ → Form → Lent → Source → List ℕ → Written
 unpacking pds form lent f out = record { refusal = refusal 19; len = 0 }
 
-abbrev pub unpacked : List ℕ → Form → Lent → Source → List ℕ → List ℕ
-unpacked pds form lent f out = out
+abbrev pub outKept : List ℕ → Form → Lent → Source → List ℕ → List ℕ
+outKept pds form lent f out = out
 
 abbrev pub downParts : List ℕ → Form → Lent → Source → Parts
 downParts pds form lent f =
-    let w = packed pds form lent f in
+    let w = packedParts pds form lent f in
     record {
       pds = w .pds;
       form = w .form;
       scale = w .scale;
       lent = w .lent;
-      values = tab (λ i. cond (eqb (presentOf f i) 1) (above f i / 2 ^ exponent f (form .packing .bits)) 0) (length (f .numbers));
+      values = tab (λ i. cond (eqb (presentOf f i) 1) (above f i / 2 ^ exponent f (form .packing .bits)) 0)
+          (length (f .numbers));
       marks = w .marks;
     }
 
@@ -145,7 +151,8 @@ ours = record {
 }
 
 -- ours but for the reader, the output, the check or the packer
-abbrev pub reading : (List ℕ → Lent → List ℕ → List ℕ → Header) → (List ℕ → Lent → List ℕ → List ℕ → List ℕ) → (List ℕ → Lent → List ℕ → List ℕ → List ℕ) → Codec
+abbrev pub reading : (List ℕ → Lent → List ℕ → List ℕ → Header) → (List ℕ → Lent → List ℕ → List ℕ → List ℕ)
+    → (List ℕ → Lent → List ℕ → List ℕ → List ℕ) → Codec
 reading read values marks =
     record { read = read; values = values; marks = marks; write = writeOf; output = outputAfter; check = checkOf; pack = packOf; packed = packedAfter }
 
@@ -157,9 +164,10 @@ abbrev pub checking : (List ℕ → Lent → Source → Refusal) → Codec
 checking check =
     record { read = readOf; values = valuesAfter; marks = marksAfter; write = writeOf; output = outputAfter; check = check; pack = packOf; packed = packedAfter }
 
-abbrev pub packing : (List ℕ → Form → Lent → Source → List ℕ → Written) → (List ℕ → Form → Lent → Source → List ℕ → List ℕ) → Codec
-packing pack packed =
-    record { read = readOf; values = valuesAfter; marks = marksAfter; write = writeOf; output = outputAfter; check = checkOf; pack = pack; packed = packed }
+abbrev pub packing : (List ℕ → Form → Lent → Source → List ℕ → Written)
+    → (List ℕ → Form → Lent → Source → List ℕ → List ℕ) → Codec
+packing pack packedParts =
+    record { read = readOf; values = valuesAfter; marks = marksAfter; write = writeOf; output = outputAfter; check = checkOf; pack = pack; packed = packedParts }
 
 abbrev pub refusesAll : Codec
 refusesAll = reading refusing valuesKept marksKept
@@ -186,12 +194,13 @@ abbrev pub alwaysNo : Codec
 alwaysNo = checking noAlways
 
 abbrev pub packsNothing : Codec
-packsNothing = packing unpacking unpacked
+packsNothing = packing unpacking outKept
 
 abbrev pub roundsDown : Codec
 roundsDown = packing packingDown packedDown
 
--- which demand rejects each. "Demand 3 alone would allow a packer that always refuses": it meets PackedPasses, and "the table's exact conditions in demand 1 reject it"
+-- which demand rejects each. "Demand 3 alone would allow a packer that always refuses": it meets PassesCheck, and "the
+-- table's exact conditions in demand 1 reject it"
 pub record Rejected : Type 0 where
   pub refuses-all : ReadsAll refusesAll → ⊥
   pub fixed-field : ReadsAll fixedField → ⊥
@@ -201,7 +210,7 @@ pub record Rejected : Type 0 where
   pub writes-nothing : ReadsBack writesNothing → ⊥
   pub always-yes : ChecksExactly alwaysYes → ⊥
   pub always-no : ChecksExactly alwaysNo → ⊥
-  pub packs-nothing-passes : PackedPasses packsNothing
+  pub packs-nothing-passes : PassesCheck packsNothing
   pub packs-nothing : RepliesByTable packsNothing → ⊥
   pub packs-nothing-exactly : PacksExactly packsNothing → ⊥
-  pub rounds-down : PackedPasses roundsDown → ⊥
+  pub rounds-down : PassesCheck roundsDown → ⊥

@@ -36,7 +36,8 @@ near (negsuc a) (pos (suc b)) = omega arith
 near (negsuc a) (negsuc b) = sub-near (suc b) (suc a) _ (omega arith) (omega arith)
 
 -- as the code hands them on
-module _ (v r : ℤ) (f : SFits w32 v) (g : SFits w32 r) (a : ℕ) (e : a ≡ natAbs (toZ w32 (ofZ w32 v) -ℤ toZ w32 (ofZ w32 r))) where
+module _ (v r : ℤ) (f : SFits w32 v) (g : SFits w32 r) (a : ℕ)
+    (e : a ≡ natAbs (toZ w32 (ofZ w32 v) -ℤ toZ w32 (ofZ w32 r))) where
   pub apart-is : a ≡ natAbs (v -ℤ r)
   apart-is = e ∙ ap₂ (λ (x y : ℤ). natAbs (x -ℤ y)) (toZ-ofZ f) (toZ-ofZ g)
 
@@ -56,27 +57,38 @@ module _ (numbers : List ℤ) (r : ℤ) (e : ℕ) (first : List ℕ) where
   unfolding tab
   none = refl
 
-  pub stored-long : (i : ℕ) (xs : List ℕ) → i ≤ length first → xs ≡ stepsTo numbers r e i first → length xs ≡ length first
+  pub stored-long : (i : ℕ) (xs : List ℕ) → i ≤ length first → xs ≡ stepsTo numbers r e i first
+      → length xs ≡ length first
   stored-long i xs h k =
       let t : i + (length first - i) ≡ length first = omega arith in
-      ap length k ∙ length-append (tab (stepOf numbers r e) i) (drop i first) ∙ ap₂ (λ (x y : ℕ). x + y) (length-tab (stepOf numbers r e) i) (length-drop i first) ∙ t
+      ap length k ∙ length-append (tab (stepOf numbers r e) i) (drop i first)
+      ∙ ap₂ (λ (x y : ℕ). x + y) (length-tab (stepOf numbers r e) i) (length-drop i first) ∙ t
 
   -- a turn stores one more
   pub stored-more : (i : ℕ) (xs : List ℕ) → i < length first → xs ≡ stepsTo numbers r e i first
-      → (a x : ℕ) → a ≡ natAbs (getD numbers i (pos 0) -ℤ r) → x ≡ stepped e a → set xs i x ≡ stepsTo numbers r e (i + 1) first
+      → (a x : ℕ) → a ≡ natAbs (getD numbers i (pos 0) -ℤ r) → x ≡ stepped e a
+      → set xs i x ≡ stepsTo numbers r e (i + 1) first
   unfolding stepOf
-  stored-more i xs h k a x ea ex = ap₂ (λ (l : List ℕ) (y : ℕ). set l i y) k (ex ∙ ap (stepped e) ea) ∙ fill (stepOf numbers r e) i first h
+  stored-more i xs h k a x ea ex =
+      ap₂ (λ (l : List ℕ) (y : ℕ). set l i y) k (ex ∙ ap (stepped e) ea) ∙ fill (stepOf numbers r e) i first h
 
-  pub with-room : length numbers ≤ length first → (xs : List ℕ) → xs ≡ stepsTo numbers r e (length numbers) first → xs ≡ stepsInto numbers r e first
+  pub with-room : length numbers ≤ length first → (xs : List ℕ) → xs ≡ stepsTo numbers r e (length numbers) first
+      → xs ≡ stepsInto numbers r e first
   unfolding stepsInto
-  with-room h xs k = k ∙ sym (ap (λ (t : Bool). cond t (stepsTo numbers r e (length numbers) first) first) (le-leb (length numbers) (length first) h))
+  with-room h xs k =
+      k
+      ∙ sym (ap (λ (t : Bool). cond t (stepsTo numbers r e (length numbers) first) first)
+      (le-leb (length numbers) (length first) h))
 
   pub without-room : length first < length numbers → first ≡ stepsInto numbers r e first
   unfolding stepsInto
-  without-room h = sym (ap (λ (t : Bool). cond t (stepsTo numbers r e (length numbers) first) first) (lt-leb (length numbers) (length first) h))
+  without-room h =
+      sym (ap (λ (t : Bool). cond t (stepsTo numbers r e (length numbers) first) first)
+      (lt-leb (length numbers) (length first) h))
 
 -- X of the m numbers from number i on
-module _ (numbers : List ℤ) (r : ℤ) (e i m k : ℕ) (first xs : List ℕ) (ek : k ≡ m) (there : i + m ≤ length numbers) (room : m ≤ length first) (is : xs ≡ stepsInto (take k (drop i numbers)) r e first) where
+module _ (numbers : List ℤ) (r : ℤ) (e i m k : ℕ) (first xs : List ℕ) (ek : k ≡ m) (there : i + m ≤ length numbers)
+    (room : m ≤ length first) (is : xs ≡ stepsInto (take k (drop i numbers)) r e first) where
   part : List ℤ
   part = take k (drop i numbers)
 
@@ -86,13 +98,21 @@ module _ (numbers : List ℤ) (r : ℤ) (e i m k : ℕ) (first xs : List ℕ) (e
 
   part-step : (j : ℕ) → j < m → stepOf part r e j ≡ stepOf numbers r e (i + j)
   unfolding stepOf part
-  part-step j h = ap (λ (x : ℤ). stepped e (natAbs (x -ℤ r))) (getD-take k (drop i numbers) j (pos 0) (omega arith) ∙ getD-drop i numbers j (pos 0))
+  part-step j h =
+      ap (λ (x : ℤ). stepped e (natAbs (x -ℤ r)))
+      (getD-take k (drop i numbers) j (pos 0) (omega arith) ∙ getD-drop i numbers j (pos 0))
 
   part-is : xs ≡ tab (λ j. stepOf numbers r e (i + j)) m ++ drop m first
   unfolding stepsInto part
   part-is =
-      is ∙ ap (λ (t : Bool). cond t (stepsTo part r e (length part) first) first) (le-leb (length part) (length first) (omega (arith, part-long)))
-      ∙ ap (λ (x : ℕ). stepsTo part r e x first) part-long ∙ ap (λ (x : List ℕ). x ++ drop m first) (tab-ext (stepOf part r e) (λ j. stepOf numbers r e (i + j)) m part-step)
+      is
+      ∙ ap (λ (t : Bool). cond t (stepsTo part r e (length part) first) first)
+      (le-leb (length part) (length first) (omega (arith, part-long)))
+      ∙ ap (λ (x : ℕ). stepsTo part r e x first) part-long
+      ∙ ap (λ (x : List ℕ). x ++ drop m first) (tab-ext (stepOf part r e) (λ j. stepOf numbers r e (i + j)) m part-step)
 
   pub steps-part : take m xs ≡ tab (λ j. stepOf numbers r e (i + j)) m
-  steps-part = ap (take m) part-is ∙ take-at (tab (λ j. stepOf numbers r e (i + j)) m) (drop m first) m (length-tab (λ j. stepOf numbers r e (i + j)) m)
+  steps-part =
+      ap (take m) part-is
+      ∙ take-at (tab (λ j. stepOf numbers r e (i + j)) m) (drop m first) m
+      (length-tab (λ j. stepOf numbers r e (i + j)) m)

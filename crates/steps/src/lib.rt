@@ -1,4 +1,5 @@
-// X of many numbers at once, without a branch in the loop: |V − R| of two 32-bit numbers fits in 32 bits, and so does X.
+// X of many numbers at once, without a branch in the loop: |V − R| of two 32-bit numbers fits in 32 bits, and so does
+// X.
 ghost use mathlib.Core.Path.{_≡_};
 ghost use Prim.Native.Nat.{_≤_};
 ghost use lib.IntN.{natAbs, _-ℤ_};
@@ -28,9 +29,11 @@ fn step(e: u8, a: u32) -> u32
     halves / 2 + halves % 2
 }
 
+// X of each number, where they fit.
 fn scale_fitting(numbers: &[i32], r: i32, e: u8, xs: &mut [u32])
     requires { ⌜ length (now numbers) ≤ length (now xs) ⌝ }
-    ensures { λ _. ⌜ now (xs .exit) ≡ stepsTo (now (numbers .entry)) r e (length (now (numbers .entry))) (now (xs .entry)) ⌝ }
+    ensures { λ _. ⌜ now (xs .exit) ≡
+        stepsTo (now (numbers .entry)) r e (length (now (numbers .entry))) (now (xs .entry)) ⌝ }
 {
     let mut i: usize = 0;
     while i < numbers.len() {

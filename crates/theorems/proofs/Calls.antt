@@ -1,5 +1,5 @@
--- Demand 2 over two calls: what a caller makes of what reading handed out is the parts of the message, field by field from `Told`; so read and then write, and write and then
--- read, say what the round trips say of these parts.
+-- Demand 2 over two calls: what a caller makes of what reading handed out is the parts of the message, field by field
+-- from `Told`; so read and then write, and write and then read, say what the round trips say of these parts.
 use Prim.Native.Nat.{ℕ, _≤_}
 use mathlib.Core.Path.{_≡_, refl, sym, _∙_, ap, subst}
 use mathlib.Core.Bool.{Bool, true, false, cond}
@@ -28,20 +28,25 @@ use Rattle.theorems.proofs.WriteBack.{write-after-read}
 
 -- a grid section has octets exactly where there is one, so that the grid it gives is made again
 grid-made : (s : List ℕ) (b : Bool) (n : ℕ) (g : Grid) → (T b → 32 ≤ cond b n 0)
-    → cond (eqb (cond b n 0) 0) Nothing (Given (theGrid (gridFrom (cond b (Given g) Nothing) s pdsStart))) ≡ cond b (Given g) Nothing
+    → cond (eqb (cond b n 0) 0) Nothing (Given (theGrid (gridFrom (cond b (Given g) Nothing) s pdsStart)))
+    ≡ cond b (Given g) Nothing
 unfolding gridFrom
 grid-made s true n g h = let l : 32 ≤ n = h tt in ap (λ (b : Bool). cond b Nothing (Given g)) (ne-eqb n 0 (λ e. omega (arith, l, e)))
 grid-made s false n g h = refl
 
-module _ (s : List ℕ) (lent : Lent) (values marks : List ℕ) (t : Taken s lent) (rv : pointsIn s ≤ length values) (rm : pointsIn s ≤ length marks) where
+module _ (s : List ℕ) (lent : Lent) (values marks : List ℕ) (t : Taken s lent) (rv : pointsIn s ≤ length values)
+    (rm : pointsIn s ≤ length marks) where
   told : Tells s lent values marks (partsIn s lent)
   told = read-tells s lent values marks t rv rm
 
-  grid-is : cond (eqb (readOf s lent values marks .places .gds .len) 0) Nothing (Given (readOf s lent values marks .grid)) ≡ gridIn s
+  grid-is : cond (eqb (readOf s lent values marks .places .gds .len) 0) Nothing
+      (Given (readOf s lent values marks .grid)) ≡ gridIn s
   unfolding foundIn foundBy parsedOf gridIn gridOf placesOf sectionAt
   grid-is =
-      ap (λ (h : Header). cond (eqb (h .places .gds .len) 0) Nothing (Given (h .grid))) (header s lent values marks t rv rm)
-      ∙ grid-made s (hasGrid s pdsStart) (number s (after (placesOf s .pds)) 1 3) (gridAt s (placesOf s .gds .start)) (reads-inside s lent t .gds)
+      ap (λ (h : Header). cond (eqb (h .places .gds .len) 0) Nothing (Given (h .grid)))
+      (header s lent values marks t rv rm)
+      ∙ grid-made s (hasGrid s pdsStart) (number s (after (placesOf s .pds)) 1 3) (gridAt s (placesOf s .gds .start))
+      (reads-inside s lent t .gds)
 
   pds-is : octetsOf s (readOf s lent values marks .places .pds) ≡ octetsOf s (placesOf s .pds)
   unfolding partsIn

@@ -1,5 +1,5 @@
--- Demand 3: the check says yes exactly when the message is taken, the source well formed, both agree, the scales are in range and each present point is near; each of the
--- checker's rows there and back.
+-- Demand 3: the check says yes exactly when the message is taken, the source well formed, both agree, the scales are in
+-- range and each present point is near; each of the checker's rows there and back.
 use Prim.Native.Nat.{ℕ, _*_, _%_, _≤_}
 use mathlib.Core.Bool.{Bool, false, not}
 use mathlib.Core.Path.{_≡_, sym, subst, _∙_, ap}
@@ -17,7 +17,8 @@ use Rattle.rules.specs.Table.{Row, row, refusal, anyOf}
 use Rattle.rules.specs.Bitmap.{Lent, valueOf}
 use Rattle.rules.specs.Values.{unit, sizeOf, whole, wholeOf}
 use Rattle.rules.specs.Reading.{messageTable, ownRefusal, pointsIn, presentIn, valuesIn, scaleIn, decimalIn}
-use Rattle.rules.specs.Checking.{Source, numberOf, presentOf, sourceFaults, decimalDiffers, sourceDiffers, scaleFaults, farFrom, pointOut, checkTable, checkOf}
+use Rattle.rules.specs.Checking.{Source, numberOf, presentOf, sourceFaults, decimalDiffers, sourceDiffers, scaleFaults}
+use Rattle.rules.specs.Checking.{farFrom, pointOut, checkTable, checkOf}
 use Rattle.laws.specs.Tables.{Clear}
 use Rattle.laws.specs.Sources.{AtPresent, Agrees, InRange}
 use Rattle.theorems.specs.Checks.{Near, Passes, CheckExactly}
@@ -53,7 +54,11 @@ range-in c h = any-none (scaleFaults c) (
     ap (λ (z : ℤ). ltZ (pos stepMost) z) (h .is) ∙ le-ltb stepMost (h .e) (h .small),
     (
       not-eq _ _ (ap (λ (x : ℕ). x % unit) (h .whole) ∙ mul-mod-left (h .m) unit),
-      (le-ltb (sourceMost * unit) (sizeOf (c .r)) (subst (λ (x : ℕ). x ≤ sourceMost * unit) (sym (h .whole)) (mul-le-mul-right unit (h .bound))), tt),
+      (
+        le-ltb (sourceMost * unit) (sizeOf (c .r))
+            (subst (λ (x : ℕ). x ≤ sourceMost * unit) (sym (h .whole)) (mul-le-mul-right unit (h .bound))),
+        tt,
+      ),
     ),
   ),
 )
@@ -72,13 +77,17 @@ module _ (s : List ℕ) (lent : Lent) (f : Source) where
   of-near h = none-at f far (λ i l p. le-ltb _ _ (h i l p))
 
   abbrev four : List Row
-  four = row 18 (anyOf (sourceFaults f)) ∷ row 15 (anyOf (sourceDiffers s lent f)) ∷ row 16 (anyOf (scaleFaults (scaleIn s))) ∷ row 17 (pointOut s lent f) ∷ []
+  four =
+      row 18 (anyOf (sourceFaults f)) ∷ row 15 (anyOf (sourceDiffers s lent f))
+      ∷ row 16 (anyOf (scaleFaults (scaleIn s))) ∷ row 17 (pointOut s lent f) ∷ []
 
   through : checkOf s lent f ≡ refusal 0 → Clear (messageTable s lent) × Clear four
   unfolding checkOf checkTable messageTable
   through e =
       clear-parts (messageTable s lent) four
-      (clear (checkTable s lent f) (tt, (tt, (tt, (tt, (tt, (tt, (tt, (tt, (tt, (tt, (tt, (tt, (tt, (tt, (tt, (tt, tt)))))))))))))))) (taken-by _ e))
+      (clear (checkTable s lent f)
+      (tt, (tt, (tt, (tt, (tt, (tt, (tt, (tt, (tt, (tt, (tt, (tt, (tt, (tt, (tt, (tt, tt))))))))))))))))
+      (taken-by _ e))
 
   passes : checkOf s lent f ≡ refusal 0 → Passes s lent f
   unfolding ownRefusal
@@ -97,7 +106,10 @@ module _ (s : List ℕ) (lent : Lent) (f : Source) where
   unfolding checkOf checkTable
   yes-to h =
       first-after (messageTable s lent) four (rows s lent (h .taken))
-      ∙ accepts four (formed-well f (h .source), (agree s lent f (h .agrees), (range-in (scaleIn s) (h .scale), (of-near (h .near), tt))))
+      ∙ accepts four (
+        formed-well f (h .source),
+        (agree s lent f (h .agrees), (range-in (scaleIn s) (h .scale), (of-near (h .near), tt))),
+      )
 
 pub check-exactly : CheckExactly
 check-exactly s lent f = (passes s lent f, yes-to s lent f)

@@ -1,4 +1,5 @@
--- The data section: laid it reads back without a stain, and laid from what was read without a stain it is the section read; by its list of fields, and bit by bit.
+-- The data section: laid it reads back without a stain, and laid from what was read without a stain it is the section
+-- read; by its list of fields, and bit by bit.
 use Prim.Native.Nat.{ℕ, _+_, _-_, _*_, _/_, _%_, _^_, _≤_, _<_}
 use mathlib.Core.Bool.{true, false}
 use mathlib.Core.Path.{_≡_, refl, sym, ap, ap₂, _∙_}
@@ -38,13 +39,17 @@ pub record DataOk (p : Packing) (c : Scale) (xs : List ℕ) : Type 0 where
   pub wide : Wide (p .bits) xs
 
 data-fit : (p : Packing) (c : Scale) (xs : List ℕ) → DataOk p c xs → Fit (dataFields p c (length xs * p .bits))
-data-fit p c xs o = (omega (arith, o .few), (omega (arith, o .flags), (spelled-lt 2 (sign 2 + sign 2) (c .e) refl (o .e), (o .r, (o .bits, tt)))))
+data-fit p c xs o = (
+  omega (arith, o .few),
+  (omega (arith, o .flags), (spelled-lt 2 (sign 2 + sign 2) (c .e) refl (o .e), (o .r, (o .bits, tt)))),
+)
 
 pub bds-sec : (p : Packing) (c : Scale) (xs : List ℕ) → DataOk p c xs → Sec true bdsLeast (bdsOf p c xs)
 bds-sec p c xs o =
     let b = all-back (bdsOf p c xs) 0 0 (dataFields p c (length xs * p .bits)) (dataBits p xs) (bds-laid p c xs) (data-fit p c xs o) in
     let l = bds-length p c xs in
-    whole-sec bdsLeast (bdsOf p c xs) (b .0 ∙ sym l) (omega (arith, l)) (ne-eqb (length (bdsOf p c xs) % 2) 1 (λ q. omega (arith, l)))
+    whole-sec bdsLeast (bdsOf p c xs) (b .0 ∙ sym l) (omega (arith, l))
+    (ne-eqb (length (bdsOf p c xs) % 2) 1 (λ q. omega (arith, l)))
 
 -- the halves of octet 4
 high-half : (f u x : ℕ) → u < 16 → x ≡ f * 16 + u → x / 16 ≡ f
@@ -53,7 +58,8 @@ high-half f u x h e = omega arith
 low-half : (f u x : ℕ) → u < 16 → x ≡ f * 16 + u → x % 16 ≡ u
 low-half f u x h e = omega arith
 
-module _ (s : List ℕ) (k : ℕ) (p : Packing) (c : Scale) (xs rest : List ℕ) (h : drop k s ≡ bdsOf p c xs ++ rest) (o : DataOk p c xs) where
+module _ (s : List ℕ) (k : ℕ) (p : Packing) (c : Scale) (xs rest : List ℕ) (h : drop k s ≡ bdsOf p c xs ++ rest)
+    (o : DataOk p c xs) where
   abbrev t : ℕ
   t = length xs * p .bits
 
@@ -65,7 +71,8 @@ module _ (s : List ℕ) (k : ℕ) (p : Packing) (c : Scale) (xs rest : List ℕ)
 
   bit-back : (i : ℕ) → i < (dataLen t - 11) * 8 → bitsIn 8 s ((k + 11) * 8 + i) ≡ bitsIn (p .bits) xs i
   bit-back i l =
-      bits-drop (k + 11) s i ∙ ap (λ (x : List ℕ). bitsIn 8 x i) (after-fields s k 0 (dataFields p c t) (dataBits p xs ++ rest) standing)
+      bits-drop (k + 11) s i
+      ∙ ap (λ (x : List ℕ). bitsIn 8 x i) (after-fields s k 0 (dataFields p c t) (dataBits p xs ++ rest) standing)
       ∙ bits-runs (bitsIn-bits (p .bits) xs) 0 8 (dataLen t - 11) rest i l ∙ ap (bitsIn (p .bits) xs) (zero-add i)
 
   pub packing-back : packingAt s k ≡ p
@@ -110,8 +117,10 @@ halves : (x len t q : ℕ) → q ≡ len → 8 * (len - 11) ≡ t + x % 16 → x
 halves x len t q e h = omega arith
 
 -- and laid again from what was read
-pub data-here : (s : List ℕ) (k len m : ℕ) → Wide 8 s → k + len ≤ length s → bdsLeast ≤ len → (len % 2 ≡ 1 → ⊥) → number s k 1 3 ≡ len
-    → 8 * (len - 11) ≡ m * octet s k 11 + octet s k 4 % 16 → minusZero s k 5 6 ≡ false → dataPaddingSet s k len (m * octet s k 11) ≡ false
+pub data-here : (s : List ℕ) (k len m : ℕ) → Wide 8 s → k + len ≤ length s → bdsLeast ≤ len → (len % 2 ≡ 1 → ⊥)
+    → number s k 1 3 ≡ len
+    → 8 * (len - 11) ≡ m * octet s k 11 + octet s k 4 % 16 → minusZero s k 5 6 ≡ false
+    → dataPaddingSet s k len (m * octet s k 11) ≡ false
     → bdsOf (packingAt s k) (scaleAt s k) (valuesAt s k (octet s k 11) m) ++ drop (k + len) s ≡ drop k s
 unfolding packingAt scaleAt valuesAt
 data-here s k len m w l least even e1 rule nz pad =
@@ -129,12 +138,21 @@ data-here s k len m w l least even e1 rule nz pad =
     (λ q. ap (λ (x : List ℕ). bitsIn n x i) (sym (append-nil xs)) ∙ bits-runs b at n m [] i q)
     (λ q.
     let f : at + m * n + (i - m * n) ≡ at + i = omega arith in
-    bits-past n xs i (wide-runs b at n m) (omega (arith, te)) ∙ sym (zeros-of (bitsIn 8 s) _ _ (is-eq _ _ pad) (i - m * n) (omega arith)) ∙ ap (bitsIn 8 s) f)
+    bits-past n xs i (wide-runs b at n m) (omega (arith, te))
+    ∙ sym (zeros-of (bitsIn 8 s) _ _ (is-eq _ _ pad) (i - m * n) (omega arith)) ∙ ap (bitsIn 8 s) f)
     (lt-or-ge i (m * n)) in
     let tail : dataBits p xs ≡ take (len - 11) (drop (k + 11) s) =
-    ap (λ (x : ℕ). runs (bitsIn n xs) 0 8 (x - 11)) le ∙ octets-here s (k + 11) (len - 11) (bitsIn n xs) w (omega arith) bits in
+    ap (λ (x : ℕ). runs (bitsIn n xs) 0 8 (x - 11)) le
+    ∙ octets-here s (k + 11) (len - 11) (bitsIn n xs) w (omega arith) bits in
     let f : k + len ≡ k + 11 + (len - 11) = omega arith in
-    ap (λ (x : List ℕ). x ++ drop (k + len) s) (bds-laid p c xs) ∙ laid-append (dataFields p c t) (dataBits p xs) (drop (k + len) s)
-    ∙ here s k (dataFields p c t) (dataBits p xs ++ drop (k + len) s) w (omega arith)
-    (e1 ∙ sym le, (one s w (k + 3) ∙ halves (octet s k 4) len t (dataLen t) le rule', (signed-here 2 _ (eqb-false _ _ nz), (refl, (one s w (k + 10), tt)))))
+    ap (λ (x : List ℕ). x ++ drop (k + len) s) (bds-laid p c xs)
+    ∙ laid-append (dataFields p c t) (dataBits p xs) (drop (k + len) s)
+    ∙ here s k (dataFields p c t) (dataBits p xs ++ drop (k + len) s) w (omega arith) (
+      e1 ∙ sym le,
+      (
+        one s w (k + 3)
+            ∙ halves (octet s k 4) len t (dataLen t) le rule',
+        (signed-here 2 _ (eqb-false _ _ nz), (refl, (one s w (k + 10), tt))),
+      ),
+    )
     (ap₂ (λ (x : List ℕ) (y : ℕ). x ++ drop y s) tail f ∙ cut s (k + 11) (len - 11))

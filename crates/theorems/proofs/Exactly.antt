@@ -1,4 +1,5 @@
--- Demand 2: reading and then writing gives the same octets only of a canonical message, since whatever is written is canonical: each section is laid without a stain.
+-- Demand 2: reading and then writing gives the same octets only of a canonical message, since whatever is written is
+-- canonical: each section is laid without a stain.
 use Prim.Native.Nat.{ℕ, _+_, _*_, _^_, _<_}
 use mathlib.Core.Bool.{Bool, true, false, cond}
 use mathlib.Core.Path.{_≡_, sym, subst, _∙_, ap}
@@ -7,7 +8,8 @@ use native.Mathlib.Nat.{le-refl}
 use lib.Dec.{T, eqb}
 use lib.ListN.{length}
 use Rattle.bits.proofs.Runs.{bitsIn-bits, run-lt}
-use Rattle.rules.specs.declared.{Places.Places, Found.the-variants.Nothing, Found.the-variants.Given, Bitmap.the-variants.Carried, Bitmap.the-variants.Stored}
+use Rattle.rules.specs.declared.{Places.Places, Found.the-variants.Nothing, Found.the-variants.Given}
+use Rattle.rules.specs.declared.{Bitmap.the-variants.Carried, Bitmap.the-variants.Stored}
 use Rattle.rules.specs.Numbers.{number}
 use Rattle.rules.specs.Table.{accepted}
 use Rattle.rules.specs.Places.{pdsStart, hasGrid, hasBitmap, placesOf}
@@ -24,11 +26,14 @@ use Rattle.theorems.proofs.Replies.{handed-is}
 use Rattle.theorems.proofs.GridSection.{GridClean, found-clean}
 use Rattle.theorems.proofs.BitmapSection.{map-clean}
 use Rattle.theorems.proofs.DataSection.{scale-clean, data-clean}
-use Rattle.theorems.proofs.ReadBack.{marksFor, packedFor, few, marks-bits, data-fine, grid-fine, places, grid-there, stands-g, stands-m, stands-d, points-in, bitmap-in, present-count, packing-in}
+use Rattle.theorems.proofs.ReadBack.{marksFor, packedFor, few, marks-bits, data-fine, grid-fine, places}
+use Rattle.theorems.proofs.ReadBack.{grid-there, stands-g, stands-m, stands-d, points-in, bitmap-in}
+use Rattle.theorems.proofs.ReadBack.{present-count, packing-in}
 use Rattle.theorems.proofs.Reoffered.{reoffered}
 use Rattle.theorems.proofs.WriteBack.{Clean, clean-canonical, comes-back}
 
-module _ (w : Parts) (out : List ℕ) (gf : GridFits (w .form .grid)) (nf : NumberFits (w .form .bitmap)) (rf : w .scale .r < 2 ^ 32) (acc : T (accepted (writeRefusal w out))) where
+module _ (w : Parts) (out : List ℕ) (gf : GridFits (w .form .grid)) (nf : NumberFits (w .form .bitmap))
+    (rf : w .scale .r < 2 ^ 32) (acc : T (accepted (writeRefusal w out))) where
   written-clean : Clean (message w) (w .lent)
   written-clean =
       let s = message w in
@@ -41,14 +46,19 @@ module _ (w : Parts) (out : List ℕ) (gf : GridFits (w .form .grid)) (nf : Numb
       let start = sym (ap (λ (x : Places). x .gds .start) at) in
       let g : GridClean (hasGrid s pdsStart) s (placesOf s .gds .start) =
       subst (λ (b : Bool). GridClean b s (placesOf s .gds .start)) there
-      (subst (GridClean _ s) start (found-clean s _ (w .form .grid) _ (stands-g w out gf nf rf acc) (grid-fine w out gf nf rf acc))) in
+      (subst (GridClean _ s) start
+      (found-clean s _ (w .form .grid) _ (stands-g w out gf nf rf acc) (grid-fine w out gf nf rf acc))) in
       record {
         grid = g;
         bitmap =
-            (λ i. bitmapPaddingSet s (bitmap-in w out gf nf rf acc i) (at i .bms .start) (points-in w out gf nf rf acc i))
-            ∙ map-clean s (w .lent) _ (marksFor w) (pointsFor w) _ (few w out gf nf rf acc) (marks-bits w out gf nf rf acc) (w .form .bitmap) (stands-m w out gf nf rf acc);
-        scale = (λ i. minusZero s (at i .bds .start) 5 6) ∙ scale-clean s _ (w .form .packing) (w .scale) (packedFor w) _ d o;
-        padding = (λ i. dataPaddingSet s (at i .bds .start) (at i .bds .len) (m i * p i .bits)) ∙ data-clean s _ (w .form .packing) (w .scale) (packedFor w) _ d o;
+            (λ i. bitmapPaddingSet s (bitmap-in w out gf nf rf acc i) (at i .bms .start)
+            (points-in w out gf nf rf acc i))
+            ∙ map-clean s (w .lent) _ (marksFor w) (pointsFor w) _ (few w out gf nf rf acc)
+            (marks-bits w out gf nf rf acc) (w .form .bitmap) (stands-m w out gf nf rf acc);
+        scale = (λ i. minusZero s (at i .bds .start) 5 6)
+            ∙ scale-clean s _ (w .form .packing) (w .scale) (packedFor w) _ d o;
+        padding = (λ i. dataPaddingSet s (at i .bds .start) (at i .bds .len) (m i * p i .bits))
+            ∙ data-clean s _ (w .form .packing) (w .scale) (packedFor w) _ d o;
       }
 
 pub written-canonical : WrittenCanonical
@@ -95,7 +105,8 @@ module _ (s : List ℕ) (lent : Lent) (below : Below 256 s) (t : Taken s lent) (
       let w = partsIn s lent in
       subst (λ (x : List ℕ). T (canonical x lent)) same
       (true-is _ (clean-canonical (message w) lent
-      (written-clean w (message w) grid-in-fits number-in-fits r-fits (reoffered s lent t (message w) (le-refl (length (message w)))))))
+      (written-clean w (message w) grid-in-fits number-in-fits r-fits
+      (reoffered s lent t (message w) (le-refl (length (message w)))))))
 
 pub write-after-read-exactly : WriteAfterReadExactly
 write-after-read-exactly s lent below t = (comes-back s lent below t, only-canonical s lent below t)

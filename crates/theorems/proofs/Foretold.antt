@@ -1,5 +1,5 @@
--- The length told before the values are known is the message's: the rows but 14 that pass for the parts pass for zeros in the place of their values, and a section's length hangs on how
--- many values it has, not on which.
+-- The length told before the values are known is the message's: the rows but 14 that pass for the parts pass for zeros
+-- in the place of their values, and a section's length hangs on how many values it has, not on which.
 use Prim.Native.Nat.{ℕ, zero, suc, _+_, _*_, _^_}
 use mathlib.Core.Bool.{Bool, true, false, not, _&&_, _||_, cond}
 use mathlib.Core.Path.{_≡_, refl, sym, ap, _∙_}
@@ -17,7 +17,9 @@ use Rattle.bits.specs.Tables.{tab, anyBelow}
 use Rattle.bits.proofs.Fill.{length-tab, getD-tab}
 use Rattle.bits.proofs.Below.{none-below, no-below}
 use Rattle.bits.proofs.Tests.{both, or-false, or-none}
-use Rattle.rules.specs.declared.{Refusal.Refusal, Bitmap.Bitmap, Bitmap.the-variants.Without, Bitmap.the-variants.Carried, Bitmap.the-variants.Stored, Form.Form, Scale.Scale, Packing.Packing, Written.Written}
+use Rattle.rules.specs.declared.{Refusal.Refusal, Bitmap.Bitmap, Bitmap.the-variants.Without}
+use Rattle.rules.specs.declared.{Bitmap.the-variants.Carried, Bitmap.the-variants.Stored, Form.Form, Scale.Scale}
+use Rattle.rules.specs.declared.{Packing.Packing, Written.Written}
 use Rattle.rules.specs.Bounds.{exponentMost, stepMost}
 use Rattle.rules.specs.Numbers.{field, laid, joined, decimalAt, beyond}
 use Rattle.rules.specs.Table.{refusal, firstOr, first, anyOf}
@@ -27,9 +29,11 @@ use Rattle.rules.specs.Grid.{gridMissing, theGrid, gridFaults}
 use Rattle.rules.specs.Bitmap.{Lent, lentFaults, bitmapGiven, markOf, marksLong, valueOf, bmsOf}
 use Rattle.rules.specs.Points.{gathered}
 use Rattle.rules.specs.Values.{packingFaults, bdsOf}
-use Rattle.rules.specs.Writing.{Parts, gridFor, pointsFor, pdsFaults, listsFit, storedFaults, pointBad, partsFaults, gdsFor, sectionsFor, indicatorFields, message, writeTable, writeRefusal, lengthOf, writeOf, unvalued, lengthFor}
+use Rattle.rules.specs.Writing.{Parts, gridFor, pointsFor, pdsFaults, listsFit, storedFaults, pointBad, partsFaults}
+use Rattle.rules.specs.Writing.{gdsFor, sectionsFor, indicatorFields, message, writeTable, writeRefusal, lengthOf}
+use Rattle.rules.specs.Writing.{writeOf, unvalued, lengthFor}
 use Rattle.rules.specs.Checking.{Source, sourceFaults, decimalDiffers}
-use Rattle.rules.specs.Packing.{exponent, packed, packTable, packRefusal}
+use Rattle.rules.specs.Packing.{exponent, packedParts, packTable, packRefusal}
 use Rattle.laws.proofs.Rows.{none-of, any-none}
 use Rattle.laws.proofs.Whole.{beyond-no}
 use Rattle.laws.proofs.Fields.{laid-length}
@@ -46,16 +50,19 @@ before : (x y r : List ℕ) → length x ≡ length y → length (x ++ r) ≡ le
 before x y r e = length-append x r ∙ ap (λ (n : ℕ). n + length r) e ∙ sym (length-append y r)
 
 -- as many are gathered of any values
-one-more : (t : Bool) (xs ys : List ℕ) (x y : ℕ) → length xs ≡ length ys → length (cond t (xs ++ (x ∷ [])) xs) ≡ length (cond t (ys ++ (y ∷ [])) ys)
+one-more : (t : Bool) (xs ys : List ℕ) (x y : ℕ) → length xs ≡ length ys
+    → length (cond t (xs ++ (x ∷ [])) xs) ≡ length (cond t (ys ++ (y ∷ [])) ys)
 one-more true xs ys x y e = length-append xs (x ∷ []) ∙ ap (λ (k : ℕ). k + 1) e ∙ sym (length-append ys (y ∷ []))
 one-more false xs ys x y e = e
 
 gathered-many : (f v u : ℕ → ℕ) (n : ℕ) → length (gathered f v n) ≡ length (gathered f u n)
 unfolding gathered
 gathered-many f v u zero = refl
-gathered-many f v u (suc n) = one-more (eqb (f n) 1) (gathered f v n) (gathered f u n) (v n) (u n) (gathered-many f v u n)
+gathered-many f v u (suc n) =
+    one-more (eqb (f n) 1) (gathered f v n) (gathered f u n) (v n) (u n) (gathered-many f v u n)
 
-data-many : (p : Packing) (c d : Scale) (xs ys : List ℕ) → length xs ≡ length ys → length (bdsOf p c xs) ≡ length (bdsOf p d ys)
+data-many : (p : Packing) (c d : Scale) (xs ys : List ℕ) → length xs ≡ length ys
+    → length (bdsOf p c xs) ≡ length (bdsOf p d ys)
 data-many p c d xs ys e = bds-length p c xs ∙ ap (λ (k : ℕ). dataLen (k * p .bits)) e ∙ sym (bds-length p d ys)
 
 -- the sections' lengths are the message's, but for its indicator
@@ -64,19 +71,25 @@ unfolding message
 message-many w = laid-length (indicatorFields (8 + length (joined (sectionsFor w)))) (joined (sectionsFor w))
 
 -- 10 asks of the values how many there are
-stored-alike : (b : Bitmap) (lent : Lent) (values us marks : List ℕ) (n : ℕ) → length values ≡ length us → storedFaults b lent values marks n ≡ storedFaults b lent us marks n
+stored-alike : (b : Bitmap) (lent : Lent) (values us marks : List ℕ) (n : ℕ) → length values ≡ length us
+    → storedFaults b lent values marks n ≡ storedFaults b lent us marks n
 unfolding storedFaults listsFit
 stored-alike Without lent values us marks n e = refl
 stored-alike Carried lent values us marks n e = refl
 stored-alike (Stored k) lent values us marks n e =
-    ap (λ (x : ℕ). (eqb x n && eqb (length marks) (marksLong n) && anyBelow (λ i. not (eqb (bitsIn 8 (lent .octets) i) (markOf marks i))) n) ∷ lentFaults lent k n) e
+    ap (λ (x : ℕ).
+    (eqb x n && eqb (length marks) (marksLong n)
+    && anyBelow (λ i. not (eqb (bitsIn 8 (lent .octets) i) (markOf marks i))) n) ∷ lentFaults lent k n) e
 
 -- 13 at a point that passes, with 0 in its value's place
-zero-passes : (bitmap : Bool) (bits mark value : ℕ) → pointBad bitmap bits mark value ≡ false → (v : ℕ) → v ≡ 0 → pointBad bitmap bits mark v ≡ false
+zero-passes : (bitmap : Bool) (bits mark value : ℕ) → pointBad bitmap bits mark value ≡ false → (v : ℕ) → v ≡ 0
+    → pointBad bitmap bits mark v ≡ false
 unfolding pointBad
 zero-passes bitmap bits mark value e v z =
     ap (λ (x : ℕ). (eqb mark 0 && (not bitmap || not (eqb x 0))) || leb (2 ^ bits) x) z
-    ∙ or-none _ (leb (2 ^ bits) 0) (go (eqb mark 0) bitmap (or-false (eqb mark 0 && (not bitmap || not (eqb value 0))) (leb (2 ^ bits) value) e .0)) (lt-leb (2 ^ bits) 0 (pow-pos bits))
+    ∙ or-none _ (leb (2 ^ bits) 0)
+    (go (eqb mark 0) bitmap (or-false (eqb mark 0 && (not bitmap || not (eqb value 0))) (leb (2 ^ bits) value) e .0))
+    (lt-leb (2 ^ bits) 0 (pow-pos bits))
   where
     go : (t b : Bool) → (t && (not b || not (eqb value 0))) ≡ false → (t && (not b || false)) ≡ false
     go true true h = refl
@@ -94,7 +107,9 @@ pub record Passed (w : Parts) : Type 0 where
   pub parts : anyOf (partsFaults w) ≡ false
 
 -- of a reply that is none of their numbers
-passed : (w : Parts) (out : List ℕ) (k : ℕ) → (eqb 5 k ≡ false) × (eqb 6 k ≡ false) × (eqb 7 k ≡ false) × (eqb 9 k ≡ false) × (eqb 10 k ≡ false) × (eqb 11 k ≡ false) × (eqb 13 k ≡ false)
+passed : (w : Parts) (out : List ℕ) (k : ℕ)
+    → (eqb 5 k ≡ false) × (eqb 6 k ≡ false) × (eqb 7 k ≡ false) × (eqb 9 k ≡ false) × (eqb 10 k ≡ false)
+    × (eqb 11 k ≡ false) × (eqb 13 k ≡ false)
     → writeRefusal w out ≡ refusal k → Passed w
 unfolding writeRefusal writeTable first firstOr
 passed w out k d e =
@@ -121,7 +136,8 @@ module _ (w : Parts) (o : Passed w) where
   unfolding partsFaults listsFit
   long =
       let fit = not-false (listsFit (w .values) (w .marks) n) (none-of (partsFaults w) (o .parts) .0) in
-      eqb-true (length (w .values)) n (both (eqb (length (w .values)) n) (eqb (length (w .marks)) (marksLong n)) fit .0) ∙ sym (length-tab (λ _. 0) n)
+      eqb-true (length (w .values)) n (both (eqb (length (w .values)) n) (eqb (length (w .marks)) (marksLong n)) fit .0)
+      ∙ sym (length-tab (λ _. 0) n)
 
   lists : anyOf (partsFaults u) ≡ false
   unfolding partsFaults listsFit unvalued pointsFor gridFor
@@ -136,7 +152,8 @@ module _ (w : Parts) (o : Passed w) where
           (
             no-below (λ i. pointBad gaps bits (markOf (w .marks) i) (valueOf zeros i)) n
                 (λ i l. zero-passes gaps bits (markOf (w .marks) i) (valueOf (w .values) i)
-                (none-below (λ i. pointBad gaps bits (markOf (w .marks) i) (valueOf (w .values) i)) n (h .1 .1 .0) i l) (valueOf zeros i) (getD-tab (λ _. 0) n i 0 l)),
+                (none-below (λ i. pointBad gaps bits (markOf (w .marks) i) (valueOf (w .values) i)) n (h .1 .1 .0) i l)
+                (valueOf zeros i) (getD-tab (λ _. 0) n i 0 l)),
             h .1 .1 .1,
           ),
         ),
@@ -151,8 +168,10 @@ module _ (w : Parts) (o : Passed w) where
     grid = o .grid;
     stored = ap anyOf (stored-alike (w .form .bitmap) (w .lent) zeros (w .values) (w .marks) n (sym long)) ∙ o .stored;
     packing =
-        any-none (beyond exponentMost (pos 0) ∷ packingFaults (w .form .packing))
-        (beyond-no exponentMost (pos 0) (omega arith), none-of (beyond exponentMost (w .scale .e .value) ∷ packingFaults (w .form .packing)) (o .packing) .1);
+        any-none (beyond exponentMost (pos 0) ∷ packingFaults (w .form .packing)) (
+          beyond-no exponentMost (pos 0) (omega arith),
+          none-of (beyond exponentMost (w .scale .e .value) ∷ packingFaults (w .form .packing)) (o .packing) .1,
+        );
     parts = lists;
     room = le-ltb (length (message u)) (length (message u)) (le-refl (length (message u)));
   }
@@ -175,7 +194,8 @@ module _ (w : Parts) (o : Passed w) where
       (behind (w .pds) (g ++ (m ++ (x ++ end))) (g ++ (m ++ (y ++ end)))
       (behind g (m ++ (x ++ end)) (m ++ (y ++ end))
       (behind m (x ++ end) (y ++ end)
-      (before x y end (data-many p zero-scale (w .scale) xs ys (gathered-many f (valueOf zeros) (valueOf (w .values)) n))))))
+      (before x y end
+      (data-many p zero-scale (w .scale) xs ys (gathered-many f (valueOf zeros) (valueOf (w .values)) n))))))
       ∙ sym (message-many w)
 
   told : lengthFor (w .pds) (w .form) (w .lent) (w .marks) ≡ record { refusal = refusal 0; len = length (message w) }
@@ -193,7 +213,7 @@ length-told w out e = told w (⊎-elim
 -- the packer's own rows pass too
 packer-passed : (pds : List ℕ) (form : Form) (lent : Lent) (f : Source) (out : List ℕ) (k : ℕ)
     → (eqb 5 k ≡ false) × (eqb 18 k ≡ false) × (eqb 15 k ≡ false) × (eqb 11 k ≡ false) × (eqb 19 k ≡ false)
-    → packRefusal pds form lent f out ≡ refusal k → writeRefusal (packed pds form lent f) out ≡ refusal k
+    → packRefusal pds form lent f out ≡ refusal k → writeRefusal (packedParts pds form lent f) out ≡ refusal k
 unfolding packRefusal packTable first firstOr writeRefusal
 packer-passed pds form lent f out k d e =
     let h5 = not-this 5 k (anyOf (pdsFaults pds)) _ (d .0) e in
@@ -203,10 +223,12 @@ packer-passed pds form lent f out k d e =
     not-this 19 k (ltb stepMost (exponent f (form .packing .bits))) _ (d .4) (h11 .1) .1
 
 pub pack-length-told : PackLengthTold
-unfolding packed
+unfolding packedParts
 pack-length-told pds form lent f out e = ⊎-elim
-    (λ (h : packRefusal pds form lent f out ≡ refusal 0). told (packed pds form lent f) (passed (packed pds form lent f) out 0 (refl, refl, refl, refl, refl, refl, refl)
+    (λ (h : packRefusal pds form lent f out ≡ refusal 0). told (packedParts pds form lent f)
+    (passed (packedParts pds form lent f) out 0 (refl, refl, refl, refl, refl, refl, refl)
     (packer-passed pds form lent f out 0 (refl, refl, refl, refl, refl) h)))
-    (λ (h : packRefusal pds form lent f out ≡ refusal 14). told (packed pds form lent f) (passed (packed pds form lent f) out 14 (refl, refl, refl, refl, refl, refl, refl)
+    (λ (h : packRefusal pds form lent f out ≡ refusal 14). told (packedParts pds form lent f)
+    (passed (packedParts pds form lent f) out 14 (refl, refl, refl, refl, refl, refl, refl)
     (packer-passed pds form lent f out 14 (refl, refl, refl, refl, refl) h)))
     e

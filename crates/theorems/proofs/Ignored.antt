@@ -1,4 +1,5 @@
--- What is read of a message does not depend on its padding bits nor on its reserved octets: every field lies outside of them, section by section.
+-- What is read of a message does not depend on its padding bits nor on its reserved octets: every field lies outside of
+-- them, section by section.
 use Prim.Native.Nat.{ℕ, _+_, _-_, _*_, _/_, _%_, _≤_, _<_}
 use mathlib.Core.Bool.{Bool, true, false, not, _&&_, cond}
 use mathlib.Core.Path.{_≡_, refl, sym, subst, _∙_, ap}
@@ -15,17 +16,21 @@ use Rattle.bits.proofs.Fill.{tab-ext}
 use Rattle.bits.proofs.Trip.{runs-ext}
 use Rattle.bits.proofs.Cut.{bits-drop, bits-take, octets-here}
 use Rattle.bits.proofs.Marks.{count-same}
-use Rattle.rules.specs.declared.{Places.Places, Packing.Packing, Found.Found, Found.the-variants.Nothing, Found.the-variants.Given, Bitmap.Bitmap, Bitmap.the-variants.Without, Bitmap.the-variants.Carried, Bitmap.the-variants.Stored}
+use Rattle.rules.specs.declared.{Places.Places, Packing.Packing, Found.Found, Found.the-variants.Nothing}
+use Rattle.rules.specs.declared.{Found.the-variants.Given, Bitmap.Bitmap, Bitmap.the-variants.Without}
+use Rattle.rules.specs.declared.{Bitmap.the-variants.Carried, Bitmap.the-variants.Stored}
 use Rattle.rules.specs.Bounds.{messageLeast, messageMost, gdsLength}
-use Rattle.rules.specs.Numbers.{octet, bit, number, signed, outside}
+use Rattle.rules.specs.Numbers.{octet, bit, number, signed, notWithin}
 use Rattle.rules.specs.Table.{anyOf}
-use Rattle.rules.specs.Places.{octetsOf, grib, sevens, pdsStart, endStart, hasGrid, hasBitmap, sectionAt, placesOf, sizeBad, markBad, editionBad, totalFaults, placesFaults}
+use Rattle.rules.specs.Places.{octetsOf, grib, sevens, pdsStart, endStart, hasGrid, hasBitmap, sectionAt, placesOf}
+use Rattle.rules.specs.Places.{sizeBad, gribBad, editionBad, totalFaults, placesFaults}
 use Rattle.rules.specs.Time.{momentFaults, timeFaults}
 use Rattle.rules.specs.Grid.{gridAt, gridFrom, gridMissing, theGrid, gdsFaults, gridFaults, pointsOf}
 use Rattle.rules.specs.Bitmap.{Lent, bitmapAt, lentFaults, bitmapFaults, bitmapGiven, inForce, bitmapOctets, presentBy}
 use Rattle.rules.specs.Points.{valueAt, scattered}
 use Rattle.rules.specs.Values.{packingAt, scaleAt, packingFaults, lengthBad, valuesAt}
-use Rattle.rules.specs.Reading.{gridIn, gridOf, pointsIn, bitmapIn, inForceIn, presentIn, presentCount, packingIn, scaleIn, dataIn, valuesIn, marksIn}
+use Rattle.rules.specs.Reading.{gridIn, gridOf, pointsIn, bitmapIn, inForceIn, presentIn, presentCount, packingIn}
+use Rattle.rules.specs.Reading.{scaleIn, dataIn, valuesIn, marksIn}
 use Rattle.rules.specs.RoundTrip.{partsIn}
 use Rattle.laws.specs.Taken.{Taken}
 use Rattle.theorems.specs.Returns.{Below, Ignored, reserved, bitmap, padding, PaddingIgnored}
@@ -36,7 +41,8 @@ use Rattle.laws.proofs.Fields.{one}
 use Rattle.theorems.proofs.GridSection.{from-same}
 use Rattle.laws.proofs.Bounded.{kind}
 
-module _ (s o : List ℕ) (lent : Lent) (ws : Below 256 s) (wo : Below 256 o) (len : length o ≡ length s) (same : (i : ℕ) → (Ignored s lent i → ⊥) → bitsIn 8 o i ≡ bitsIn 8 s i) (t : Taken s lent) where
+module _ (s o : List ℕ) (lent : Lent) (ws : Below 256 s) (wo : Below 256 o) (len : length o ≡ length s)
+    (same : (i : ℕ) → (Ignored s lent i → ⊥) → bitsIn 8 o i ≡ bitsIn 8 s i) (t : Taken s lent) where
   at : Sections s
   at = sections s lent t
 
@@ -77,25 +83,39 @@ module _ (s o : List ℕ) (lent : Lent) (ws : Below 256 s) (wo : Below 256 o) (l
 
   data-end : (D + 11) * 8 + used ≤ end * 8
   unfolding lengthBad
-  data-end = omega (arith, at .bds .least refl, is-eq (8 * (placesOf s .bds .len - 11)) (used + octet s D 4 % 16) (j .length))
+  data-end =
+      omega (arith, at .bds .least refl, is-eq (8 * (placesOf s .bds .len - 11)) (used + octet s D 4 % 16) (j .length))
 
   -- a place that is before or after each of the three is none of them
-  clear-of : (i : ℕ) → (i < (G + 28) * 8) ⊎ (M * 8 ≤ i) → (i < (M + 6) * 8 + n) ⊎ (D * 8 ≤ i) → (i < (D + 11) * 8 + used) ⊎ (end * 8 ≤ i) → Ignored s lent i → ⊥
-  clear-of i a b c (reserved g h) = ⊎-elim (λ l. omega (arith, h .0, l)) (λ l. omega (arith, h .1, l, grid-end (is-true _ g))) a
+  clear-of : (i : ℕ) → (i < (G + 28) * 8) ⊎ (M * 8 ≤ i) → (i < (M + 6) * 8 + n) ⊎ (D * 8 ≤ i)
+      → (i < (D + 11) * 8 + used) ⊎ (end * 8 ≤ i) → Ignored s lent i → ⊥
+  clear-of i a b c (reserved g h) =
+      ⊎-elim (λ l. omega (arith, h .0, l)) (λ l. omega (arith, h .1, l, grid-end (is-true _ g))) a
   clear-of i a b c (bitmap e h) = ⊎-elim (λ l. omega (arith, h .0, l)) (λ l. omega (arith, h .1, l, map-end e)) b
   clear-of i a b c (padding h) = ⊎-elim (λ l. omega (arith, h .0, l)) (λ l. omega (arith, h .1, l, data-end)) c
 
-  -- so that numbers are the same before the grid's reserved octets, in the bitmap section's head, in the data and in the end
+  -- so that numbers are the same before the grid's reserved octets, in the bitmap section's head, in the data and in
+  -- the end
   front-bits : (a k : ℕ) → a + k ≤ G * 8 → run (bitsIn 8 o) a k ≡ run (bitsIn 8 s) a k
-  front-bits a k l = run-ext (bitsIn 8 o) (bitsIn 8 s) a a k (λ i q. same (a + i) (clear-of (a + i) (inl (omega arith)) (inl (omega (arith, at .at-bms))) (inl (omega (arith, at .at-bms, at .at-bds)))))
+  front-bits a k l =
+      run-ext (bitsIn 8 o) (bitsIn 8 s) a a k
+      (λ i q. same (a + i)
+      (clear-of (a + i) (inl (omega arith)) (inl (omega (arith, at .at-bms)))
+      (inl (omega (arith, at .at-bms, at .at-bds)))))
 
   grid-bits : hasGrid s pdsStart ≡ true → (a k : ℕ) → a + k ≤ (G + 28) * 8 → run (bitsIn 8 o) a k ≡ run (bitsIn 8 s) a k
   grid-bits h a k l =
-      run-ext (bitsIn 8 o) (bitsIn 8 s) a a k (λ i q. same (a + i) (clear-of (a + i) (inl (omega arith)) (inl (omega (arith, grid-end h))) (inl (omega (arith, grid-end h, at .at-bds)))))
+      run-ext (bitsIn 8 o) (bitsIn 8 s) a a k
+      (λ i q. same (a + i)
+      (clear-of (a + i) (inl (omega arith)) (inl (omega (arith, grid-end h)))
+      (inl (omega (arith, grid-end h, at .at-bds)))))
 
-  map-bits : hasBitmap s pdsStart ≡ true → (a k : ℕ) → M * 8 ≤ a → a + k ≤ (M + 6) * 8 → run (bitsIn 8 o) a k ≡ run (bitsIn 8 s) a k
+  map-bits : hasBitmap s pdsStart ≡ true → (a k : ℕ) → M * 8 ≤ a → a + k ≤ (M + 6) * 8
+      → run (bitsIn 8 o) a k ≡ run (bitsIn 8 s) a k
   map-bits h a k m l =
-      run-ext (bitsIn 8 o) (bitsIn 8 s) a a k (λ i q. same (a + i) (clear-of (a + i) (inr (omega arith)) (inl (omega arith)) (inl (omega (arith, map-head h)))))
+      run-ext (bitsIn 8 o) (bitsIn 8 s) a a k
+      (λ i q. same (a + i)
+      (clear-of (a + i) (inr (omega arith)) (inl (omega arith)) (inl (omega (arith, map-head h)))))
 
   data-bit : (i : ℕ) → D * 8 ≤ i → i < (D + 11) * 8 + used → bitsIn 8 o i ≡ bitsIn 8 s i
   data-bit i m l = same i (clear-of i (inr (omega (arith, at .at-bds))) (inr m) (inl l))
@@ -105,7 +125,9 @@ module _ (s o : List ℕ) (lent : Lent) (ws : Below 256 s) (wo : Below 256 o) (l
 
   end-bits : (a k : ℕ) → end * 8 ≤ a → run (bitsIn 8 o) a k ≡ run (bitsIn 8 s) a k
   end-bits a k m =
-      run-ext (bitsIn 8 o) (bitsIn 8 s) a a k (λ i q. same (a + i) (clear-of (a + i) (inr (omega (arith, at .at-bds))) (inr (omega arith)) (inr (omega arith))))
+      run-ext (bitsIn 8 o) (bitsIn 8 s) a a k
+      (λ i q. same (a + i)
+      (clear-of (a + i) (inr (omega (arith, at .at-bds))) (inr (omega arith)) (inr (omega arith))))
 
   -- an octet is the number in its bits
   by-bits : (k : ℕ) → run (bitsIn 8 o) (k * 8) 8 ≡ run (bitsIn 8 s) (k * 8) 8 → getD o k 0 ≡ getD s k 0
@@ -132,9 +154,13 @@ module _ (s o : List ℕ) (lent : Lent) (ws : Below 256 s) (wo : Below 256 o) (l
 
   gds-len : cond (hasGrid o pdsStart) (number o (8 + number o 8 1 3) 1 3) 0 ≡ placesOf s .gds .len
   unfolding placesOf sectionAt
-  gds-len = (λ i. cond (grid-there i) (number o (8 + pds-len i) 1 3) 0) ∙ gated-same (hasGrid s pdsStart) _ _ (λ h. grid-bits h _ 24 (omega arith))
+  gds-len =
+      (λ i. cond (grid-there i) (number o (8 + pds-len i) 1 3) 0)
+      ∙ gated-same (hasGrid s pdsStart) _ _ (λ h. grid-bits h _ 24 (omega arith))
 
-  bms-len : cond (hasBitmap o pdsStart) (number o (8 + number o 8 1 3 + cond (hasGrid o pdsStart) (number o (8 + number o 8 1 3) 1 3) 0) 1 3) 0 ≡ placesOf s .bms .len
+  bms-len : cond (hasBitmap o pdsStart)
+      (number o (8 + number o 8 1 3 + cond (hasGrid o pdsStart) (number o (8 + number o 8 1 3) 1 3) 0) 1 3) 0
+      ≡ placesOf s .bms .len
   unfolding placesOf sectionAt
   bms-len =
       (λ i. cond (bitmap-there i) (number o (8 + pds-len i + gds-len i) 1 3) 0)
@@ -162,8 +188,10 @@ module _ (s o : List ℕ) (lent : Lent) (ws : Below 256 s) (wo : Below 256 o) (l
       let c = number s 8 1 3 in
       let f : ℕ → ℕ = λ i. bitsIn 8 s (64 + i) in
       ap (λ (k : ℕ). take k (drop 8 o)) pds-len
-      ∙ sym (octets-here o 8 c f wo (omega (arith, len, at .at-gds, at .at-bms, at .at-bds, at .end)) (λ i l. sym (same (64 + i) (clear-of (64 + i)
-      (inl (omega (arith, at .at-gds))) (inl (omega (arith, at .at-gds, at .at-bms))) (inl (omega (arith, at .at-gds, at .at-bms, at .at-bds)))))))
+      ∙ sym (octets-here o 8 c f wo (omega (arith, len, at .at-gds, at .at-bms, at .at-bds, at .end))
+      (λ i l. sym (same (64 + i) (clear-of (64 + i)
+      (inl (omega (arith, at .at-gds))) (inl (omega (arith, at .at-gds, at .at-bms)))
+      (inl (omega (arith, at .at-gds, at .at-bms, at .at-bds)))))))
       ∙ octets-here s 8 c f ws (omega (arith, at .at-gds, at .at-bms, at .at-bds, at .end)) (λ i l. refl)
 
   -- the grid
@@ -189,9 +217,12 @@ module _ (s o : List ℕ) (lent : Lent) (ws : Below 256 s) (wo : Below 256 o) (l
 
   grid-in : gridIn o ≡ gridIn s
   unfolding gridIn
-  grid-in = (λ i. cond (grid-there i) (Given (gridAt o (places-same i .gds .start))) Nothing) ∙ found (hasGrid s pdsStart) grid-same
+  grid-in =
+      (λ i. cond (grid-there i) (Given (gridAt o (places-same i .gds .start))) Nothing)
+      ∙ found (hasGrid s pdsStart) grid-same
     where
-      found : (b : Bool) → (b ≡ true → gridAt o G ≡ gridAt s G) → cond b (Given (gridAt o G)) Nothing ≡ cond b (Given (gridAt s G)) Nothing
+      found : (b : Bool) → (b ≡ true → gridAt o G ≡ gridAt s G)
+          → cond b (Given (gridAt o G)) Nothing ≡ cond b (Given (gridAt s G)) Nothing
       found true h = ap Given (h refl)
       found false h = refl
 
@@ -199,7 +230,8 @@ module _ (s o : List ℕ) (lent : Lent) (ws : Below 256 s) (wo : Below 256 o) (l
   unfolding gridOf
   grid-of =
       ap (λ (f : Found). gridFrom f o pdsStart) grid-in
-      ∙ from-same (gridIn s) o 8 (drop 8 s) (pds-octet 14 (omega arith) ∙ sym (getD-drop 8 s 6 0)) ∙ sym (from-same (gridIn s) s 8 (drop 8 s) (sym (getD-drop 8 s 6 0)))
+      ∙ from-same (gridIn s) o 8 (drop 8 s) (pds-octet 14 (omega arith) ∙ sym (getD-drop 8 s 6 0))
+      ∙ sym (from-same (gridIn s) s 8 (drop 8 s) (sym (getD-drop 8 s 6 0)))
 
   points-same : pointsIn o ≡ pointsIn s
   unfolding pointsIn
@@ -212,9 +244,11 @@ module _ (s o : List ℕ) (lent : Lent) (ws : Below 256 s) (wo : Below 256 o) (l
   bitmap-same : bitmapIn o ≡ bitmapIn s
   unfolding bitmapIn bitmapAt
   bitmap-same =
-      (λ i. bitmapAt o (bitmap-there i) (places-same i .bms .start)) ∙ kinds (hasBitmap s pdsStart) (number o M 5 6) (number s M 5 6) map-number
+      (λ i. bitmapAt o (bitmap-there i) (places-same i .bms .start))
+      ∙ kinds (hasBitmap s pdsStart) (number o M 5 6) (number s M 5 6) map-number
     where
-      kinds : (b : Bool) (x y : ℕ) → (b ≡ true → x ≡ y) → cond b (cond (eqb x 0) Carried (Stored x)) Without ≡ cond b (cond (eqb y 0) Carried (Stored y)) Without
+      kinds : (b : Bool) (x y : ℕ) → (b ≡ true → x ≡ y)
+          → cond b (cond (eqb x 0) Carried (Stored x)) Without ≡ cond b (cond (eqb y 0) Carried (Stored y)) Without
       kinds true x y h = ap (λ (k : ℕ). cond (eqb k 0) Carried (Stored k)) (h refl)
       kinds false x y h = refl
 
@@ -225,19 +259,23 @@ module _ (s o : List ℕ) (lent : Lent) (ws : Below 256 s) (wo : Below 256 o) (l
   given-there m e g = kind s ∙ ap bitmapGiven e ∙ g
 
   present-as : (m : Bitmap) → bitmapIn s ≡ m → (i : ℕ) → i < n
-      → presentBy m (bitmapOctets o (lent .octets) (inForce m (placesOf s .bms) n)) i ≡ presentBy m (bitmapOctets s (lent .octets) (inForce m (placesOf s .bms) n)) i
+      → presentBy m (bitmapOctets o (lent .octets) (inForce m (placesOf s .bms) n)) i
+      ≡ presentBy m (bitmapOctets s (lent .octets) (inForce m (placesOf s .bms) n)) i
   unfolding presentBy bitmapOctets inForce
   present-as Without e i l = refl
   present-as (Stored k) e i l = refl
   present-as Carried e i l =
       bits-take (octetsFor n) (drop (M + 6) o) i (omega arith) ∙ sym (bits-drop (M + 6) o i)
-      ∙ same ((M + 6) * 8 + i) (clear-of ((M + 6) * 8 + i) (inr (omega arith)) (inl (omega arith)) (inl (omega (arith, map-end e))))
+      ∙ same ((M + 6) * 8 + i)
+      (clear-of ((M + 6) * 8 + i) (inr (omega arith)) (inl (omega arith)) (inl (omega (arith, map-end e))))
       ∙ bits-drop (M + 6) s i ∙ sym (bits-take (octetsFor n) (drop (M + 6) s) i (omega arith))
 
   present-same : (i : ℕ) → i < n → presentIn o lent i ≡ presentIn s lent i
   unfolding presentIn inForceIn
   present-same i l =
-      (λ k. presentBy (bitmap-same k) (bitmapOctets o (lent .octets) (inForce (bitmap-same k) (places-same k .bms) (points-same k))) i) ∙ present-as (bitmapIn s) refl i l
+      (λ k. presentBy (bitmap-same k)
+      (bitmapOctets o (lent .octets) (inForce (bitmap-same k) (places-same k .bms) (points-same k))) i)
+      ∙ present-as (bitmapIn s) refl i l
 
   count-upto : (i : ℕ) → i ≤ n → count (presentIn o lent) 0 i ≡ count (presentIn s lent) 0 i
   count-upto = count-same (presentIn o lent) (presentIn s lent) n present-same
@@ -252,7 +290,9 @@ module _ (s o : List ℕ) (lent : Lent) (ws : Below 256 s) (wo : Below 256 o) (l
 
   packing-same : packingIn o ≡ packingIn s
   unfolding packingIn packingAt
-  packing-same = ap (λ (p : Places). packingAt o (p .bds .start)) places-same ∙ (λ i. record { flags = data-octet 3 (omega arith) i / 16; bits = data-octet 10 (omega arith) i })
+  packing-same =
+      ap (λ (p : Places). packingAt o (p .bds .start)) places-same
+      ∙ (λ i. record { flags = data-octet 3 (omega arith) i / 16; bits = data-octet 10 (omega arith) i })
 
   scale-same : scaleIn o ≡ scaleIn s
   unfolding scaleIn scaleAt
@@ -263,7 +303,10 @@ module _ (s o : List ℕ) (lent : Lent) (ws : Below 256 s) (wo : Below 256 o) (l
 
   data-same : dataIn o lent ≡ dataIn s lent
   unfolding dataIn valuesAt
-  data-same = (λ i. valuesAt o (places-same i .bds .start) (packing-same i .bits) (present-count i)) ∙ runs-ext (bitsIn 8 o) (bitsIn 8 s) ((D + 11) * 8) ((D + 11) * 8) (packingIn s .bits) (presentCount s lent) (λ i l. data-bit ((D + 11) * 8 + i) (omega arith) (omega arith))
+  data-same =
+      (λ i. valuesAt o (places-same i .bds .start) (packing-same i .bits) (present-count i))
+      ∙ runs-ext (bitsIn 8 o) (bitsIn 8 s) ((D + 11) * 8) ((D + 11) * 8) (packingIn s .bits) (presentCount s lent)
+      (λ i l. data-bit ((D + 11) * 8 + i) (omega arith) (omega arith))
 
   values-same : valuesIn o lent ≡ valuesIn s lent
   unfolding valuesIn scattered valueAt
@@ -295,20 +338,24 @@ module _ (s o : List ℕ) (lent : Lent) (ws : Below 256 s) (wo : Below 256 o) (l
       (λ i. grid-there i && anyOf (gdsFaults o (places-same i .gds)))
       ∙ gate (hasGrid s pdsStart) _ _
       (λ h i.
-      anyOf (not (eqb (p .len) gdsLength) ∷ not (eqb (grid-octet h 3 (omega arith) i) 0) ∷ not (eqb (grid-octet h 4 (omega arith) i) 255) ∷ not (eqb (grid-octet h 5 (omega arith) i) 0) ∷ []))
+      anyOf (not (eqb (p .len) gdsLength) ∷ not (eqb (grid-octet h 3 (omega arith) i) 0)
+      ∷ not (eqb (grid-octet h 4 (omega arith) i) 255) ∷ not (eqb (grid-octet h 5 (omega arith) i) 0) ∷ []))
       ∙ j .gds
     where
       gate : (b x y : Bool) → (b ≡ true → x ≡ y) → (b && x) ≡ (b && y)
       gate true x y h = h refl
       gate false x y h = refl
 
-  map-passes : (m : Bitmap) → bitmapIn s ≡ m → bitmapFaults o lent (placesOf s .bms) m n ≡ bitmapFaults s lent (placesOf s .bms) m n
+  map-passes : (m : Bitmap) → bitmapIn s ≡ m
+      → bitmapFaults o lent (placesOf s .bms) m n ≡ bitmapFaults s lent (placesOf s .bms) m n
   unfolding bitmapFaults
   map-passes Without e = refl
   map-passes Carried e =
-      ap (λ (u : ℕ). ltb 15 u ∷ not (eqb (8 * (placesOf s .bms .len - 6)) (n + u)) ∷ []) (map-octet (given-there Carried e refl))
+      ap (λ (u : ℕ). ltb 15 u ∷ not (eqb (8 * (placesOf s .bms .len - 6)) (n + u)) ∷ [])
+      (map-octet (given-there Carried e refl))
   map-passes (Stored k) e =
-      ap (λ (u : ℕ). not (eqb (placesOf s .bms .len) 6) ∷ not (eqb u 0) ∷ lentFaults lent k n) (map-octet (given-there (Stored k) e refl))
+      ap (λ (u : ℕ). not (eqb (placesOf s .bms .len) 6) ∷ not (eqb u 0) ∷ lentFaults lent k n)
+      (map-octet (given-there (Stored k) e refl))
 
   total-passes : anyOf (totalFaults o) ≡ false
   unfolding totalFaults
@@ -321,13 +368,15 @@ module _ (s o : List ℕ) (lent : Lent) (ws : Below 256 s) (wo : Below 256 o) (l
   time-passes : anyOf (timeFaults o pdsStart) ≡ false
   unfolding timeFaults
   time-passes =
-      (λ i. anyOf (momentFaults (pds-octet 32 (omega arith) i) (pds-octet 20 (omega arith) i) (pds-octet 21 (omega arith) i) (pds-octet 22 (omega arith) i) (pds-octet 23 (omega arith) i) (pds-octet 24 (omega arith) i)))
+      (λ i. anyOf
+      (momentFaults (pds-octet 32 (omega arith) i) (pds-octet 20 (omega arith) i) (pds-octet 21 (omega arith) i)
+      (pds-octet 22 (omega arith) i) (pds-octet 23 (omega arith) i) (pds-octet 24 (omega arith) i)))
       ∙ j .time
 
   passes : Judged o lent
-  unfolding sizeBad markBad editionBad lengthBad
+  unfolding sizeBad gribBad editionBad lengthBad
   passes = record {
-    size = ap (outside messageLeast messageMost) len ∙ j .size;
+    size = ap (notWithin messageLeast messageMost) len ∙ j .size;
     mark = ap (λ (x : ℕ). not (eqb x grib)) (front-bits 0 32 (omega (arith, pds-least))) ∙ j .mark;
     edition = ap (λ (x : ℕ). not (eqb x 1)) (pds-octet 7 (omega arith)) ∙ j .edition;
     total = total-passes;
@@ -336,12 +385,15 @@ module _ (s o : List ℕ) (lent : Lent) (ws : Below 256 s) (wo : Below 256 o) (l
     found = ap gridMissing grid-of ∙ j .found;
     gds = gds-passes;
     grid = ap (λ (f : Found). anyOf (gridFaults (theGrid f))) grid-of ∙ j .grid;
-    bitmap = (λ i. anyOf (bitmapFaults o lent (places-same i .bms) (bitmap-same i) (points-same i))) ∙ ap anyOf (map-passes (bitmapIn s) refl) ∙ j .bitmap;
+    bitmap = (λ i. anyOf (bitmapFaults o lent (places-same i .bms) (bitmap-same i) (points-same i)))
+        ∙ ap anyOf (map-passes (bitmapIn s) refl) ∙ j .bitmap;
     packing = ap (λ (p : Packing). anyOf (packingFaults p)) packing-same ∙ j .packing;
     length =
         (λ i. lengthBad o (places-same i .bds) (present-count i) (packing-same i))
-        ∙ ap (λ (x : ℕ). not (eqb (8 * (placesOf s .bds .len - 11)) (used + x % 16))) (data-octet 3 (omega arith)) ∙ j .length;
+        ∙ ap (λ (x : ℕ). not (eqb (8 * (placesOf s .bds .len - 11)) (used + x % 16))) (data-octet 3 (omega arith))
+        ∙ j .length;
   }
 
 pub padding-ignored : PaddingIgnored
-padding-ignored s o lent ws wo len same t = (taken-by _ (unjudged o lent (passes s o lent ws wo len same t)), parts-same s o lent ws wo len same t)
+padding-ignored s o lent ws wo len same t =
+    (taken-by _ (unjudged o lent (passes s o lent ws wo len same t)), parts-same s o lent ws wo len same t)

@@ -1,4 +1,5 @@
--- A message laid out of its sections: they are found where they were laid, and rows 1 to 6 give no fault; each place from the one before, by cutting off what stands there.
+-- A message laid out of its sections: they are found where they were laid, and rows 1 to 6 give no fault; each place
+-- from the one before, by cutting off what stands there.
 use Prim.Native.Nat.{ℕ, _+_, _-_, _%_, _≤_, _<_}
 use mathlib.Core.Bool.{Bool, true, false}
 use mathlib.Core.Path.{_≡_, refl, sym, ap, subst, _∙_}
@@ -14,7 +15,8 @@ use Rattle.rules.specs.declared.{Part.Part, Places.Places}
 use Rattle.rules.specs.Bounds.{messageLeast, messageMost, pdsLeast, pdsMost, gdsLeast, bmsLeast, bdsLeast}
 use Rattle.rules.specs.Numbers.{Field, field, laid, bit, number}
 use Rattle.rules.specs.Table.{anyOf}
-use Rattle.rules.specs.Places.{octetsOf, after, grib, sevens, pdsStart, endStart, hasGrid, hasBitmap, sectionAt, placesOf, sizeBad, markBad, editionBad, totalFaults, sectionFaults, placesFaults}
+use Rattle.rules.specs.Places.{octetsOf, after, grib, sevens, pdsStart, endStart, hasGrid, hasBitmap, sectionAt}
+use Rattle.rules.specs.Places.{placesOf, sizeBad, gribBad, editionBad, totalFaults, sectionFaults, placesFaults}
 use Rattle.rules.specs.Time.{yearOf, momentAt, timeFaults, momentFaults}
 use Rattle.laws.proofs.Rows.{any-none, clash, gated, not-eq, outside-no}
 use Rattle.laws.proofs.Fields.{get-at, Back, all-back, after-fields, laid-length}
@@ -29,7 +31,8 @@ pub record Sec (there : Bool) (low : ℕ) (p : List ℕ) : Type 0 where
 pub empty-sec : (low : ℕ) → Sec false low []
 empty-sec low = record { none = λ t. refl; says = λ t. clash false t refl; least = λ t. clash false t refl; even = refl }
 
-pub whole-sec : (low : ℕ) (p : List ℕ) → number p 0 1 3 ≡ length p → low ≤ length p → eqb (length p % 2) 1 ≡ false → Sec true low p
+pub whole-sec : (low : ℕ) (p : List ℕ) → number p 0 1 3 ≡ length p → low ≤ length p → eqb (length p % 2) 1 ≡ false
+    → Sec true low p
 whole-sec low p says least even = record { none = λ t. clash true refl t; says = λ t. says; least = λ t. least; even = even }
 
 abbrev pub ahead : ℕ → List Field
@@ -46,7 +49,15 @@ drop-next s k p rest e = sym (drop-drop (length p) k s) ∙ ap (drop (length p))
 
 pub length-body : (p g m d : List ℕ) → length (body p g m d) ≡ length p + length g + length m + length d + 4
 length-body p g m d =
-    omega (arith, laid-length ending [], length-append p (g ++ (m ++ (d ++ laid ending []))), length-append g (m ++ (d ++ laid ending [])), length-append m (d ++ laid ending []), length-append d (laid ending []))
+    omega (
+      arith,
+      laid-length ending [],
+      length-append p (g ++ (m ++ (d ++ laid ending []))),
+      length-append g
+          (m ++ (d ++ laid ending [])),
+      length-append m (d ++ laid ending []),
+      length-append d (laid ending []),
+    )
 
 abbrev pub partIs : ℕ → List ℕ → Part
 partIs k p = record { start = k; len = length p }
@@ -59,19 +70,24 @@ laidPlaces p g m d = record {
   bds = partIs (pdsStart + length p + length g + length m) d;
 }
 
-section-read : (s : List ℕ) (b : Bool) (k low : ℕ) (p rest : List ℕ) → 3 ≤ low → Sec b low p → drop k s ≡ p ++ rest → sectionAt s b k ≡ partIs k p
+section-read : (s : List ℕ) (b : Bool) (k low : ℕ) (p rest : List ℕ) → 3 ≤ low → Sec b low p → drop k s ≡ p ++ rest
+    → sectionAt s b k ≡ partIs k p
 unfolding sectionAt
-section-read s true k low p rest l c e = ap (λ (x : ℕ). record { start = k; len = x }) (run-at s k p rest 0 3 e (omega (arith, c .least refl)) ∙ c .says refl)
+section-read s true k low p rest l c e =
+    ap (λ (x : ℕ). record { start = k; len = x }) (run-at s k p rest 0 3 e (omega (arith, c .least refl)) ∙ c .says refl)
 section-read s false k low p rest l c e = ap (λ (x : ℕ). record { start = k; len = x }) (sym (c .none refl))
 
-section-none : (b : Bool) (end low k : ℕ) (p : List ℕ) → Sec b low p → 3 ≤ low → k + length p ≤ end → b ≡ true → anyOf (sectionFaults end low (partIs k p)) ≡ false
+section-none : (b : Bool) (end low k : ℕ) (p : List ℕ) → Sec b low p → 3 ≤ low → k + length p ≤ end → b ≡ true
+    → anyOf (sectionFaults end low (partIs k p)) ≡ false
 unfolding sectionFaults
 section-none b end low k p c l h t =
     let m : low ≤ length p = c .least t in
     any-none _ (le-ltb end (k + 3) (omega arith), (c .even, (le-ltb _ _ m, (le-ltb _ _ h, tt))))
 
 -- the places' parts in turn
-places-by : (s : List ℕ) (a b c d : Part) → sectionAt s true pdsStart ≡ a → sectionAt s (hasGrid s pdsStart) (after a) ≡ b → sectionAt s (hasBitmap s pdsStart) (after b) ≡ c → sectionAt s true (after c) ≡ d
+places-by : (s : List ℕ) (a b c d : Part) → sectionAt s true pdsStart ≡ a
+    → sectionAt s (hasGrid s pdsStart) (after a) ≡ b → sectionAt s (hasBitmap s pdsStart) (after b) ≡ c
+    → sectionAt s true (after c) ≡ d
     → placesOf s ≡ record { pds = a; gds = b; bms = c; bds = d }
 unfolding placesOf
 places-by s a b c d e1 e2 e3 e4 =
@@ -119,7 +135,9 @@ pub record Laid (s p g m d : List ℕ) : Type 0 where
 
 module _ (s p g m d : List ℕ) (h : Laid s p g m d) where
   heads : Back s 0 0 (ahead (length s))
-  heads = all-back s 0 0 (ahead (length s)) (body p g m d) (h .whole) (omega arith, (omega (arith, h .fits), (omega arith, tt)))
+  heads =
+      all-back s 0 0 (ahead (length s)) (body p g m d) (h .whole)
+      (omega arith, (omega (arith, h .fits), (omega arith, tt)))
 
   at-p : drop pdsStart s ≡ body p g m d
   at-p = after-fields s 0 0 (ahead (length s)) (body p g m d) (h .whole)
@@ -149,18 +167,22 @@ module _ (s p g m d : List ℕ) (h : Laid s p g m d) where
   same-bitmap = bitmap-same s pdsStart p pds-octet
 
   pub laid-places : placesOf s ≡ laidPlaces p g m d
-  laid-places = places-by s (partIs 8 p) (partIs (8 + length p) g) (partIs (8 + length p + length g) m) (partIs (8 + length p + length g + length m) d)
+  laid-places =
+      places-by s (partIs 8 p) (partIs (8 + length p) g) (partIs (8 + length p + length g) m)
+      (partIs (8 + length p + length g + length m) d)
       (section-read s true 8 pdsLeast p _ (omega arith) (h .pds) at-p)
-      (section-read s (hasGrid s pdsStart) (8 + length p) gdsLeast g _ (omega arith) (subst (λ (b : Bool). Sec b gdsLeast g) (sym same-grid) (h .gds)) at-g)
-      (section-read s (hasBitmap s pdsStart) (8 + length p + length g) bmsLeast m _ (omega arith) (subst (λ (b : Bool). Sec b bmsLeast m) (sym same-bitmap) (h .bms)) at-m)
+      (section-read s (hasGrid s pdsStart) (8 + length p) gdsLeast g _ (omega arith)
+      (subst (λ (b : Bool). Sec b gdsLeast g) (sym same-grid) (h .gds)) at-g)
+      (section-read s (hasBitmap s pdsStart) (8 + length p + length g) bmsLeast m _ (omega arith)
+      (subst (λ (b : Bool). Sec b bmsLeast m) (sym same-bitmap) (h .bms)) at-m)
       (section-read s true (8 + length p + length g + length m) bdsLeast d _ (omega arith) (h .bds) at-d)
 
   pub size-none : sizeBad s ≡ false
   unfolding sizeBad
   size-none = outside-no messageLeast messageMost (length s) (omega (arith, size)) (h .fits)
 
-  pub mark-none : markBad s ≡ false
-  unfolding markBad
+  pub mark-none : gribBad s ≡ false
+  unfolding gribBad
   mark-none = not-eq _ _ (heads .0)
 
   pub edition-none : editionBad s ≡ false
@@ -184,11 +206,16 @@ module _ (s p g m d : List ℕ) (h : Laid s p g m d) where
         (
           le-ltb _ _ (h .most),
           (
-            gated (hasGrid s pdsStart) _ (λ t. section-none (hasGrid p 0) (endStart s) gdsLeast (8 + length p) g (h .gds) (omega arith) (omega arith) (sym same-grid ∙ t)),
+            gated (hasGrid s pdsStart) _
+                (λ t. section-none (hasGrid p 0) (endStart s) gdsLeast (8 + length p) g (h .gds) (omega arith)
+                (omega arith) (sym same-grid ∙ t)),
             (
-              gated (hasBitmap s pdsStart) _ (λ t. section-none (hasBitmap p 0) (endStart s) bmsLeast (8 + length p + length g) m (h .bms) (omega arith) (omega arith) (sym same-bitmap ∙ t)),
+              gated (hasBitmap s pdsStart) _
+                  (λ t. section-none (hasBitmap p 0) (endStart s) bmsLeast (8 + length p + length g) m (h .bms)
+                  (omega arith) (omega arith) (sym same-bitmap ∙ t)),
               (
-                section-none true (endStart s) bdsLeast (8 + length p + length g + length m) d (h .bds) (omega arith) (omega arith) refl,
+                section-none true (endStart s) bdsLeast (8 + length p + length g + length m) d (h .bds) (omega arith)
+                    (omega arith) refl,
                 (not-eq _ _ (sym e), tt),
               ),
             ),

@@ -1,4 +1,5 @@
--- Each stain that `canonical` asks for is needed: for each a message that is taken, has that stain alone and does not come back; by computing with the specimen.
+-- Each stain that `canonical` asks for is needed: for each a message that is taken, has that stain alone and does not
+-- come back; by computing with the specimen.
 use Prim.Native.Nat.{ℕ, zero, suc}
 use mathlib.Core.Bool.{Bool, true, _&&_}
 use mathlib.Core.Path.{_≡_, refl, ap}
@@ -26,7 +27,8 @@ octets-of (x ∷ xs) h zero = ltb→lt x 256 (and-l (ltb x 256) (allOctets xs) h
 octets-of (x ∷ xs) h (suc i) = octets-of xs (and-r (ltb x 256) (allOctets xs) h) i
 
 -- a message of which one octet does not come back
-stained : (k : ℕ) (s : List ℕ) (at : ℕ) → T (allOctets s) → Taken s nothing → stains s nothing ≡ only k → (getD (message (partsIn s nothing)) at 0 ≡ getD s at 0 → ⊥) → Stained k
+stained : (k : ℕ) (s : List ℕ) (at : ℕ) → T (allOctets s) → Taken s nothing → stains s nothing ≡ only k
+    → (getD (message (partsIn s nothing)) at 0 ≡ getD s at 0 → ⊥) → Stained k
 stained k s at o t a h = record { s = s; lent = nothing; octets = octets-of s o; taken = t; alone = a; lost = λ e. h (ap (λ (x : List ℕ). getD x at 0) e) }
 
 none : stains specimen nothing ≡ only 8
@@ -68,4 +70,10 @@ padding = stained 7 (set specimen 89 1) 89 tt tt refl (λ e. omega arith)
 
 pub stains-needed : StainsNeeded
 stains-needed =
-    upto Stained 7 (upto Stained 6 (upto Stained 5 (upto Stained 4 (upto Stained 3 (upto Stained 2 (upto Stained 1 (upto Stained 0 (λ k l. absurd (not-suc-le-zero l)) reserved) la1) lo1) la2) lo2) bitmap) scale) padding
+    upto Stained 7
+    (upto Stained 6
+    (upto Stained 5
+    (upto Stained 4
+    (upto Stained 3
+    (upto Stained 2 (upto Stained 1 (upto Stained 0 (λ k l. absurd (not-suc-le-zero l)) reserved) la1) lo1) la2) lo2)
+    bitmap) scale) padding

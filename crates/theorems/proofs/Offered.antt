@@ -1,4 +1,5 @@
--- What the parts are that the writer accepts: its eight rows as named facts, there and back, and what each leaves. Nothing else looks at its table by position.
+-- What the parts are that the writer accepts: its eight rows as named facts, there and back, and what each leaves.
+-- Nothing else looks at its table by position.
 use Prim.Native.Nat.{ℕ, _^_, _≤_, _<_}
 use mathlib.Core.Bool.{Bool, true, false, not}
 use mathlib.Core.Path.{_≡_, refl, sym, subst}
@@ -14,7 +15,8 @@ use Rattle.bits.specs.Bits.{bitsIn}
 use Rattle.bits.proofs.Runs.{Bits, lt-or-ge}
 use Rattle.bits.proofs.Ones.{count-le}
 use Rattle.bits.proofs.Below.{none-below}
-use Rattle.rules.specs.declared.{Bitmap.Bitmap, Bitmap.the-variants.Without, Bitmap.the-variants.Carried, Bitmap.the-variants.Stored}
+use Rattle.rules.specs.declared.{Bitmap.Bitmap, Bitmap.the-variants.Without, Bitmap.the-variants.Carried}
+use Rattle.rules.specs.declared.{Bitmap.the-variants.Stored}
 use Rattle.rules.specs.Bounds.{pdsLeast, pdsMost, pointsMost, bitsMost, exponentMost}
 use Rattle.rules.specs.Numbers.{beyond}
 use Rattle.rules.specs.Table.{refusal, accepted, anyOf}
@@ -24,7 +26,8 @@ use Rattle.rules.specs.Grid.{gridMissing, theGrid, gridFaults, pointsOf}
 use Rattle.rules.specs.Bitmap.{Lent, bitmapGiven, markOf, marksLong, valueOf, lentFaults}
 use Rattle.rules.specs.Points.{gathered}
 use Rattle.rules.specs.Values.{packingFaults}
-use Rattle.rules.specs.Writing.{Parts, gridFor, pointsFor, pdsFaults, listsFit, storedFaults, gridGiven, pointBad, differ, partsFaults, message, writeTable, writeRefusal}
+use Rattle.rules.specs.Writing.{Parts, gridFor, pointsFor, pdsFaults, listsFit, storedFaults, gridGiven, pointBad}
+use Rattle.rules.specs.Writing.{differ, partsFaults, message, writeTable, writeRefusal}
 use Rattle.laws.specs.Tables.{Clear}
 use Rattle.theorems.specs.Returns.{NumberFits}
 use Rattle.bits.proofs.Tests.{both}
@@ -59,7 +62,9 @@ offered w out t =
 
 pub unoffered : (w : Parts) (out : List ℕ) → Offer w out → writeRefusal w out ≡ refusal 0
 unfolding writeRefusal writeTable
-unoffered w out h = accepts (writeTable w out) (h .pds, (h .time, (h .found, (h .grid, (h .stored, (h .packing, (h .parts, (h .room, tt))))))))
+unoffered w out h =
+    accepts (writeTable w out)
+    (h .pds, (h .time, (h .found, (h .grid, (h .stored, (h .packing, (h .parts, (h .room, tt))))))))
 
 same : (a b : Bool) → differ a b ≡ false → a ≡ b
 same true true e = refl
@@ -67,8 +72,10 @@ same true false e = e
 same false true e = sym e
 same false false e = refl
 
-map-of : (m : Bitmap) (lent : Lent) (values marks : List ℕ) (n : ℕ) → NumberFits m → listsFit values marks n ≡ true → anyOf (storedFaults m lent values marks n) ≡ false
-    → ((i : ℕ) → i < n → (markOf marks i < 2) × (markOf marks i ≡ 0 → bitmapGiven m ≡ true)) → MapOk m lent (markOf marks) n
+map-of : (m : Bitmap) (lent : Lent) (values marks : List ℕ) (n : ℕ) → NumberFits m → listsFit values marks n ≡ true
+    → anyOf (storedFaults m lent values marks n) ≡ false
+    → ((i : ℕ) → i < n → (markOf marks i < 2) × (markOf marks i ≡ 0 → bitmapGiven m ≡ true))
+    → MapOk m lent (markOf marks) n
 unfolding storedFaults
 map-of Without lent values marks n f t e p = λ i l. one (markOf marks i) (p i l .0) (λ z. clash false (p i l .1 z) refl)
   where
@@ -77,18 +84,26 @@ map-of Without lent values marks n f t e p = λ i l. one (markOf marks i) (p i l
 map-of Carried lent values marks n f t e p = tt
 map-of (Stored j) lent values marks n f t e p =
     let h = none-of _ e in
-    let g = and-false (listsFit values marks n) _ t (h .0) in
-    (f, any-none (lentFaults lent j n) (h .1), λ i l. is-eq _ _ (none-below (λ i. not (eqb (bitsIn 8 (lent .octets) i) (markOf marks i))) n g i l))
+    let g = and-false (listsFit values marks n) _ t (h .0) in (
+      f,
+      any-none (lentFaults lent j n) (h .1),
+      λ i l. is-eq _ _
+          (none-below (λ i. not (eqb (bitsIn 8 (lent .octets) i) (markOf marks i))) n g i l),
+    )
 
 pub packing-none : (w : Parts) (out : List ℕ) → Offer w out → anyOf (packingFaults (w .form .packing)) ≡ false
-packing-none w out o = any-none (packingFaults (w .form .packing)) (none-of (beyond exponentMost (w .scale .e .value) ∷ packingFaults (w .form .packing)) (o .packing) .1)
+packing-none w out o =
+    any-none (packingFaults (w .form .packing))
+    (none-of (beyond exponentMost (w .scale .e .value) ∷ packingFaults (w .form .packing)) (o .packing) .1)
 
-module _ (w : Parts) (out : List ℕ) (nf : NumberFits (w .form .bitmap)) (rf : w .scale .r < 2 ^ 32) (o : Offer w out) where
+module _ (w : Parts) (out : List ℕ) (nf : NumberFits (w .form .bitmap)) (rf : w .scale .r < 2 ^ 32)
+    (o : Offer w out) where
   pub pds-sec : Sec true pdsLeast (w .pds)
   unfolding pdsFaults
   pds-sec =
       let h = none-of _ (o .pds) in
-      whole-sec pdsLeast (w .pds) (is-eq _ _ (h .1 .1 .0)) (inside pdsLeast pdsMost (length (w .pds)) (h .1 .0) .0) (h .0)
+      whole-sec pdsLeast (w .pds) (is-eq _ _ (h .1 .1 .0)) (inside pdsLeast pdsMost (length (w .pds)) (h .1 .0) .0)
+      (h .0)
 
   pub pds-most : length (w .pds) ≤ pdsMost
   unfolding pdsFaults
@@ -96,7 +111,9 @@ module _ (w : Parts) (out : List ℕ) (nf : NumberFits (w .form .bitmap)) (rf : 
 
   pub points-most : pointsFor w ≤ pointsMost
   unfolding gridFaults pointsFor
-  points-most = inside 1 pointsMost (pointsOf (theGrid (gridFor w))) (none-of (gridFaults (theGrid (gridFor w))) (o .grid) .1 .1 .0) .1
+  points-most =
+      inside 1 pointsMost (pointsOf (theGrid (gridFor w)))
+      (none-of (gridFaults (theGrid (gridFor w))) (o .grid) .1 .1 .0) .1
 
   pack-none : NoneOf (beyond exponentMost (w .scale .e .value) ∷ packingFaults (w .form .packing))
   pack-none = none-of (beyond exponentMost (w .scale .e .value) ∷ packingFaults (w .form .packing)) (o .packing)
@@ -115,15 +132,24 @@ module _ (w : Parts) (out : List ℕ) (nf : NumberFits (w .form .bitmap)) (rf : 
 
   pub values-long : length (w .values) ≡ pointsFor w
   unfolding listsFit
-  values-long = eqb-true _ _ (both (eqb (length (w .values)) (pointsFor w)) (eqb (length (w .marks)) (marksLong (pointsFor w))) fit .0)
+  values-long =
+      eqb-true _ _
+      (both (eqb (length (w .values)) (pointsFor w)) (eqb (length (w .marks)) (marksLong (pointsFor w))) fit .0)
 
   pub marks-long : length (w .marks) ≡ marksLong (pointsFor w)
   unfolding listsFit
-  marks-long = eqb-true _ _ (both (eqb (length (w .values)) (pointsFor w)) (eqb (length (w .marks)) (marksLong (pointsFor w))) fit .1)
+  marks-long =
+      eqb-true _ _
+      (both (eqb (length (w .values)) (pointsFor w)) (eqb (length (w .marks)) (marksLong (pointsFor w))) fit .1)
 
-  point : (i : ℕ) → i < pointsFor w → PointOk (bitmapGiven (w .form .bitmap)) (w .form .packing .bits) (markOf (w .marks) i) (valueOf (w .values) i)
+  point : (i : ℕ) → i < pointsFor w
+      → PointOk (bitmapGiven (w .form .bitmap)) (w .form .packing .bits) (markOf (w .marks) i) (valueOf (w .values) i)
   unfolding partsFaults
-  point i l = point-ok _ _ _ _ (none-below (λ i. pointBad (bitmapGiven (w .form .bitmap)) (w .form .packing .bits) (markOf (w .marks) i) (valueOf (w .values) i)) (pointsFor w) (none-of _ (o .parts) .1 .1 .0) i l)
+  point i l =
+      point-ok _ _ _ _
+      (none-below
+      (λ i. pointBad (bitmapGiven (w .form .bitmap)) (w .form .packing .bits) (markOf (w .marks) i)
+      (valueOf (w .values) i)) (pointsFor w) (none-of _ (o .parts) .1 .1 .0) i l)
 
   mark-lt : (i : ℕ) → i < pointsFor w → markOf (w .marks) i < 2
   unfolding partsFaults
@@ -141,7 +167,8 @@ module _ (w : Parts) (out : List ℕ) (nf : NumberFits (w .form .bitmap)) (rf : 
   has-bitmap = same _ _ (none-of _ (o .parts) .1 .1 .1 .1 .0)
 
   -- a list n long is 0 past its end
-  past : (xs : List ℕ) (top i : ℕ) → length xs ≡ pointsFor w → 0 < top → (i < pointsFor w → valueOf xs i < top) → valueOf xs i < top
+  past : (xs : List ℕ) (top i : ℕ) → length xs ≡ pointsFor w → 0 < top → (i < pointsFor w → valueOf xs i < top)
+      → valueOf xs i < top
   past xs top i e p h = ⊎-elim h
       (λ g. subst (λ (x : ℕ). x < top) (sym (List·getD-eq-default xs 0 (subst (λ (x : ℕ). x ≤ i) (sym e) g))) p)
       (lt-or-ge i (pointsFor w))
@@ -150,7 +177,9 @@ module _ (w : Parts) (out : List ℕ) (nf : NumberFits (w .form .bitmap)) (rf : 
   mark-bits i = past (w .marks) 2 i marks-long (omega arith) (mark-lt i)
 
   pub map-ok : MapOk (w .form .bitmap) (w .lent) (markOf (w .marks)) (pointsFor w)
-  map-ok = map-of (w .form .bitmap) (w .lent) (w .values) (w .marks) (pointsFor w) nf fit (o .stored) (λ i l. (mark-lt i l, λ z. point i l .absent z .0))
+  map-ok =
+      map-of (w .form .bitmap) (w .lent) (w .values) (w .marks) (pointsFor w) nf fit (o .stored)
+      (λ i l. (mark-lt i l, λ z. point i l .absent z .0))
 
   pub data-ok : DataOk (w .form .packing) (w .scale) (gathered (markOf (w .marks)) (valueOf (w .values)) (pointsFor w))
   data-ok =
@@ -165,5 +194,6 @@ module _ (w : Parts) (out : List ℕ) (nf : NumberFits (w .form .bitmap)) (rf : 
         e = omega (arith, within exponentMost (w .scale .e .value) (pack-none .0));
         r = rf;
         few = mul-le-mul c bits-most;
-        wide = wide-gathered f mark-bits v bits (λ i. past (w .values) (2 ^ bits) i values-long (pow-pos bits) (λ l. point i l .value)) n;
+        wide = wide-gathered f mark-bits v bits
+            (λ i. past (w .values) (2 ^ bits) i values-long (pow-pos bits) (λ l. point i l .value)) n;
       }

@@ -1,5 +1,5 @@
--- What the packer replies: 19 exactly when the rows above it pass and no E fits, since no other row has that number; and by each number once, since what the writer's 5 and 11
--- ask has passed before.
+-- What the packer replies: 19 exactly when the rows above it pass and no E fits, since no other row has that number;
+-- and by each number once, since what the writer's 5 and 11 ask has passed before.
 use Prim.Native.Nat.{ℕ}
 use mathlib.Core.Bool.{Bool, true, false, not, _&&_, cond}
 use mathlib.Core.Path.{_≡_, refl, subst, _∙_, ap}
@@ -21,7 +21,7 @@ use Rattle.rules.specs.Grid.{gridMissing, theGrid, gridFaults}
 use Rattle.rules.specs.Values.{packingFaults}
 use Rattle.rules.specs.Writing.{Parts, gridFor, pointsFor, pdsFaults, storedFaults, writeTable}
 use Rattle.rules.specs.Checking.{Source, sourceFaults, decimalDiffers}
-use Rattle.rules.specs.Packing.{exponent, packed, packTable, packRefusal}
+use Rattle.rules.specs.Packing.{exponent, packedParts, packTable, packRefusal}
 use Rattle.theorems.specs.Replies.{Among, onceTable, PackerOnce}
 use Rattle.theorems.specs.Checks.{NothingFits, NoStepReply}
 use Rattle.bits.proofs.Tests.{or-false}
@@ -33,12 +33,14 @@ use Rattle.theorems.proofs.Steps.{no-step-fits}
 use Rattle.theorems.proofs.Checked.{decimal-no}
 
 -- a reply of another number than this row's: the row does not apply
-pub not-this : (n k : ℕ) (test : Bool) (below : Refusal) → eqb n k ≡ false → cond test (refusal n) below ≡ refusal k → (test ≡ false) × (below ≡ refusal k)
+pub not-this : (n k : ℕ) (test : Bool) (below : Refusal) → eqb n k ≡ false → cond test (refusal n) below ≡ refusal k
+    → (test ≡ false) × (below ≡ refusal k)
 not-this n k true below d e = absurd (eqb-false n k d (ap (λ (r : Refusal). r .number) e))
 not-this n k false below d e = (refl, e)
 
 -- a reply that no row below gives: this row applies
-this-row : (n : ℕ) (test : Bool) (below : Refusal) → (below ≡ refusal n → ⊥) → cond test (refusal n) below ≡ refusal n → test ≡ true
+this-row : (n : ℕ) (test : Bool) (below : Refusal) → (below ≡ refusal n → ⊥) → cond test (refusal n) below ≡ refusal n
+    → test ≡ true
 this-row n true below h e = refl
 this-row n false below h e = absurd (h e)
 
@@ -55,7 +57,8 @@ no-19 : (w : Parts) (out : List ℕ) → first (writeTable w out) ≡ refusal 19
 unfolding writeTable
 no-19 w out e =
     not-among 19 (0 ∷ 5 ∷ 6 ∷ 7 ∷ 9 ∷ 10 ∷ 11 ∷ 13 ∷ 14 ∷ []) tt
-    (subst (λ (r : Refusal). Among (r .number) (0 ∷ 5 ∷ 6 ∷ 7 ∷ 9 ∷ 10 ∷ 11 ∷ 13 ∷ 14 ∷ [])) e (reply-among (writeTable w out)))
+    (subst (λ (r : Refusal). Among (r .number) (0 ∷ 5 ∷ 6 ∷ 7 ∷ 9 ∷ 10 ∷ 11 ∷ 13 ∷ 14 ∷ [])) e
+    (reply-among (writeTable w out)))
 
 -- a row that does not apply, and one that does
 passes-on : (test : Bool) (r below : Refusal) → test ≡ false → cond test r below ≡ below
@@ -73,7 +76,7 @@ module _ (pds : List ℕ) (form : Form) (lent : Lent) (f : Source) (out : List �
   E = exponent f (form .packing .bits)
 
   abbrev w : Parts
-  w = packed pds form lent f
+  w = packedParts pds form lent f
 
   nothing-fits : packRefusal pds form lent f out ≡ refusal 19 → NothingFits pds form f
   unfolding packRefusal packTable first firstOr
@@ -102,18 +105,26 @@ module _ (pds : List ℕ) (form : Form) (lent : Lent) (f : Source) (out : List �
       ∙ passes-on (anyOf (sourceFaults f)) (refusal 18) _ (formed-well f (h .source))
       ∙ passes-on D (refusal 15) _ (decimal-no (decimalAt pds 0 .value) (f .d) (h .decimal))
       ∙ passes-on (anyOf (packingFaults (form .packing))) (refusal 11) _ (h .packing)
-      ∙ ap (λ (t : Bool). cond t (refusal 19) (first (writeTable w out))) (lt-ltb stepMost E (no-step-fits f (form .packing .bits) (h .source) .1 (h .flat, h .spread)))
+      ∙ ap (λ (t : Bool). cond t (refusal 19) (first (writeTable w out)))
+      (lt-ltb stepMost E (no-step-fits f (form .packing .bits) (h .source) .1 (h .flat, h .spread)))
 
   -- the writer's 11 of an E that 19 does not refuse
-  scale-passes : anyOf (packingFaults (form .packing)) ≡ false → ltb stepMost E ≡ false → anyOf (beyond exponentMost (pos E) ∷ packingFaults (form .packing)) ≡ false
+  scale-passes : anyOf (packingFaults (form .packing)) ≡ false → ltb stepMost E ≡ false
+      → anyOf (beyond exponentMost (pos E) ∷ packingFaults (form .packing)) ≡ false
   scale-passes p e =
-      any-none (beyond exponentMost (pos E) ∷ packingFaults (form .packing)) (beyond-no exponentMost (pos E) (omega (arith, ltb-false stepMost E e)), none-of (packingFaults (form .packing)) p)
+      any-none (beyond exponentMost (pos E) ∷ packingFaults (form .packing)) (
+        beyond-no exponentMost (pos E) (omega (arith, ltb-false stepMost E e)),
+        none-of (packingFaults (form .packing))
+            p,
+      )
 
   once : packRefusal pds form lent f out ≡ first (onceTable pds form lent f out)
-  unfolding packRefusal packTable writeTable first firstOr packed
+  unfolding packRefusal packTable writeTable first firstOr packedParts
   once =
-      under (anyOf (pdsFaults pds)) (refusal 5) _ _ λ e5. under (anyOf (sourceFaults f)) (refusal 18) _ _ λ e18. under D (refusal 15) _ _ λ e15.
-      under (anyOf (packingFaults (form .packing))) (refusal 11) _ _ λ e11. under (ltb stepMost E) (refusal 19) _ _ λ e19.
+      under (anyOf (pdsFaults pds)) (refusal 5) _ _ λ e5. under (anyOf (sourceFaults f)) (refusal 18) _ _ λ e18. under D
+      (refusal 15) _ _ λ e15.
+      under (anyOf (packingFaults (form .packing))) (refusal 11) _ _ λ e11. under (ltb stepMost E) (refusal 19) _ _
+      λ e19.
       passes-on (anyOf (pdsFaults pds)) (refusal 5) _ e5
       ∙ under (anyOf (timeFaults pds 0)) (refusal 6) _ _ λ e6. under (gridMissing (gridFor w)) (refusal 7) _ _ λ e7.
       under (anyOf (gridFaults (theGrid (gridFor w)))) (refusal 9) _ _ λ e9.

@@ -1,5 +1,5 @@
--- Demand 3: when the packer accepts, row by row; and whatever it writes passes the check against its own source: what is written reads back, and at each present point X is
--- near by the rounding law.
+-- Demand 3: when the packer accepts, row by row; and whatever it writes passes the check against its own source: what
+-- is written reads back, and at each present point X is near by the rounding law.
 use Prim.Native.Nat.{ℕ, _*_, _^_, _≤_, _<_}
 use mathlib.Core.Bool.{Bool, cond}
 use mathlib.Core.Path.{_≡_, sym, _∙_, ap}
@@ -26,7 +26,8 @@ use Rattle.rules.specs.Reading.{pointsIn, presentIn, valuesIn, marksIn, scaleIn
 use Rattle.rules.specs.Writing.{Parts, pdsFaults, message, writeRefusal}
 use Rattle.rules.specs.RoundTrip.{partsIn}
 use Rattle.rules.specs.Checking.{Source, numberOf, presentOf, sourceFaults, decimalDiffers, checkOf}
-use Rattle.rules.specs.Packing.{reference, spellingOf, stepped, above, exponent, packedAt, packed, packTable, packRefusal, packOf, packedAfter}
+use Rattle.rules.specs.Packing.{reference, spellingOf, stepped, above, exponent, packedAt, packedParts, packTable}
+use Rattle.rules.specs.Packing.{packRefusal, packOf, packedAfter}
 use Rattle.laws.specs.Taken.{Taken}
 use Rattle.laws.specs.Sources.{AtPresent, WellFormed, Agrees, InRange}
 use Rattle.theorems.specs.Checks.{Near, PackedPasses, Packable, PackExactly}
@@ -45,11 +46,13 @@ use Rattle.theorems.proofs.ReadBack.{message-reads}
 use Rattle.theorems.proofs.Checked.{decimal-no, check-exactly}
 
 -- a step fits exactly where N is not 0 or the spread is under half of the greatest
-spread-of : (f : Source) (bits : ℕ) → WellFormed f → exponent f bits ≤ stepMost → bits ≡ 0 → AtPresent f (λ i. above f i < flatSpread)
+spread-of : (f : Source) (bits : ℕ) → WellFormed f → exponent f bits ≤ stepMost → bits ≡ 0
+    → AtPresent f (λ i. above f i < flatSpread)
 spread-of f bits ok l z i b p =
     ⊎-elim (λ h. h) (λ h. absurd (omega (arith, no-step-fits f bits ok .1 (z, record { at = i; below = b; here = p; holds = h })))) (lt-or-ge (above f i) flatSpread)
 
-of-spread : (f : Source) (bits : ℕ) → WellFormed f → (bits ≡ 0 → AtPresent f (λ i. above f i < flatSpread)) → exponent f bits ≤ stepMost
+of-spread : (f : Source) (bits : ℕ) → WellFormed f → (bits ≡ 0 → AtPresent f (λ i. above f i < flatSpread))
+    → exponent f bits ≤ stepMost
 of-spread f bits ok h = ⊎-elim
     (λ l. let n = no-step-fits f bits ok .0 l in let o = n .1 in absurd (omega (arith, h (n .0) (o .at) (o .below) (o .here), o .holds)))
     (λ g. g)
@@ -76,9 +79,9 @@ module _ (pds : List ℕ) (form : Form) (lent : Lent) (f : Source) (out : List �
       }
 
   packs : Packable pds form lent f out → packRefusal pds form lent f out ≡ refusal 0
-  unfolding packRefusal packTable packed
+  unfolding packRefusal packTable packedParts
   packs h =
-      let w = packed pds form lent f in
+      let w = packedParts pds form lent f in
       let o = offered w out (h .written) in
       let e = exponent f (form .packing .bits) in
       accepts (packTable pds form lent f out) (
@@ -87,7 +90,10 @@ module _ (pds : List ℕ) (form : Form) (lent : Lent) (f : Source) (out : List �
           formed-well f (h .source),
           (
             decimal-no (decimalAt pds 0 .value) (f .d) (h .decimal),
-            (packing-none w out o, (le-ltb stepMost e (of-spread f (form .packing .bits) (h .source) (h .spread)), rows w out (h .written))),
+            (
+              packing-none w out o,
+              (le-ltb stepMost e (of-spread f (form .packing .bits) (h .source) (h .spread)), rows w out (h .written)),
+            ),
           ),
         ),
       )
@@ -95,37 +101,40 @@ module _ (pds : List ℕ) (form : Form) (lent : Lent) (f : Source) (out : List �
 pub pack-exactly : PackExactly
 pack-exactly pds form lent f out = (packable pds form lent f out, λ h. taken-by _ (packs pds form lent f out h))
 
-near-same : (v r q : ℤ) (x y e d : ℕ) → r ≡ q → x ≡ y → e ≡ d → 2 * natAbs (v -ℤ q -ℤ pos (y * 2 ^ d)) ≤ 2 ^ d → 2 * natAbs (v -ℤ r -ℤ pos (x * 2 ^ e)) ≤ 2 ^ e
+near-same : (v r q : ℤ) (x y e d : ℕ) → r ≡ q → x ≡ y → e ≡ d → 2 * natAbs (v -ℤ q -ℤ pos (y * 2 ^ d)) ≤ 2 ^ d
+    → 2 * natAbs (v -ℤ r -ℤ pos (x * 2 ^ e)) ≤ 2 ^ e
 near-same v r q x y e d h k l n = rw (h, k, l) n
 
-module _ (pds : List ℕ) (form : Form) (lent : Lent) (f : Source) (s : List ℕ) (t : Taken s lent) (same : partsIn s lent ≡ packed pds form lent f) where
+module _ (pds : List ℕ) (form : Form) (lent : Lent) (f : Source) (s : List ℕ) (t : Taken s lent)
+    (same : partsIn s lent ≡ packedParts pds form lent f) where
   abbrev E : ℕ
   E = exponent f (form .packing .bits)
 
   -- what reading back gives
   pds-is : octetsOf s (placesOf s .pds) ≡ pds
-  unfolding partsIn packed
+  unfolding partsIn packedParts
   pds-is = ap (λ (w : Parts). w .pds) same
 
   e-is : scaleIn s .e .value ≡ pos E
-  unfolding partsIn packed
+  unfolding partsIn packedParts
   e-is = ap (λ (w : Parts). w .scale .e .value) same
 
   r-is : scaleIn s .r ≡ spellingOf (reference f)
-  unfolding partsIn packed
+  unfolding partsIn packedParts
   r-is = ap (λ (w : Parts). w .scale .r) same
 
   values-is : valuesIn s lent ≡ tab (packedAt f E) (length (f .numbers))
-  unfolding partsIn packed
+  unfolding partsIn packedParts
   values-is = ap (λ (w : Parts). w .values) same
 
   marks-is : marksIn s lent ≡ f .marks
-  unfolding partsIn packed
+  unfolding partsIn packedParts
   marks-is = ap (λ (w : Parts). w .marks) same
 
   points-same : length (f .numbers) ≡ pointsIn s
   unfolding valuesIn scattered
-  points-same = sym (length-tab (packedAt f E) (length (f .numbers))) ∙ ap length (sym values-is) ∙ length-tab _ (pointsIn s)
+  points-same =
+      sym (length-tab (packedAt f E) (length (f .numbers))) ∙ ap length (sym values-is) ∙ length-tab _ (pointsIn s)
 
   present-same : (i : ℕ) → i < pointsIn s → presentIn s lent i ≡ presentOf f i
   unfolding marksIn
@@ -156,10 +165,10 @@ module _ (pds : List ℕ) (form : Form) (lent : Lent) (f : Source) (s : List ℕ
         (near E (numberOf f i) (reference f) (reference-under f i l p))
 
 pub packed-passes : PackedPasses
-unfolding packed packOf packedAfter
+unfolding packedParts packOf packedAfter
 packed-passes pds form lent f out hg hn t =
     let k = packable pds form lent f out t in
-    let w = packed pds form lent f in
+    let w = packedParts pds form lent f in
     let fits = spelled-exactly (reference f) (reference-most f (k .source)) .fits in
     let r = message-reads w out hg hn fits (k .written) in
     ap (λ (s : List ℕ). checkOf s lent f) (handed-is (packRefusal pds form lent f out) (message w) out t)
@@ -167,6 +176,7 @@ packed-passes pds form lent f out hg hn t =
       taken = r .0;
       source = k .source;
       agrees = agreed pds form lent f (message w) (r .0) (r .1) (k .decimal);
-      scale = ranged pds form lent f (message w) (r .0) (r .1) (k .source) (of-spread f (form .packing .bits) (k .source) (k .spread));
+      scale = ranged pds form lent f (message w) (r .0) (r .1) (k .source)
+          (of-spread f (form .packing .bits) (k .source) (k .spread));
       near = nearby pds form lent f (message w) (r .0) (r .1) (k .source);
     })

@@ -1,4 +1,5 @@
--- Demand 2: the scanning flags draw each point where they say, and a chart's place and a grid point's number determine each other; one law of division for either order of the points, one of turning a direction.
+-- Demand 2: the scanning flags draw each point where they say, and a chart's place and a grid point's number determine
+-- each other; one law of division for either order of the points, one of turning a direction.
 use Prim.Native.Nat.{ℕ, _+_, _*_, _/_, _%_, _<_}
 use mathlib.Core.Bool.{Bool, true, false, _&&_, cond}
 use mathlib.Core.Path.{_≡_, refl, sym, subst, _∙_, ap}
@@ -7,8 +8,10 @@ use native.Mathlib.Nat.{mul-comm, mod-lt, div-add-mod', div-lt-iff-lt-mul}
 use borrow.Author.Tests.{lt-ltb, ltb-true}
 use lib.Dec.{ltb}
 use lib.Arith.{digits-lt, digits-div, digits-mod}
-use Rattle.rules.specs.declared.{Shape.Shape, GridPoint.GridPoint, Spot.Spot, Charted.the-variants.On, Charted.the-variants.Off, Pointed.the-variants.At, Pointed.the-variants.Off as Nowhere}
-use Rattle.rules.specs.Chart.{west, north, byColumn, turned, spotOf, pointOf, pointsOn, rowsOn, rowLong, spotOn, pointOn, charted, pointed}
+use Rattle.rules.specs.declared.{Shape.Shape, GridPoint.GridPoint, Spot.Spot, Charted.the-variants.On}
+use Rattle.rules.specs.declared.{Charted.the-variants.Off, Pointed.the-variants.At, Pointed.the-variants.Off as Nowhere}
+use Rattle.rules.specs.Chart.{west, north, byColumn, turned, spotOf, pointOf, pointsOn, rowsOn, rowLong, spotOn}
+use Rattle.rules.specs.Chart.{pointOn, charted, pointed}
 use Rattle.theorems.specs.Reads.{ChartDrawn, PlacePoint, PlacePointAnswers}
 use Rattle.bits.proofs.Products.{left-positive, right-positive}
 use Rattle.bits.proofs.Tests.{both}
@@ -33,11 +36,15 @@ rowIn b ni nj k = cond b (k % nj) (k / ni)
 abbrev columnIn : Bool → ℕ → ℕ → ℕ → ℕ
 columnIn b ni nj k = cond b (k / nj) (k % ni)
 
-ordered : (b : Bool) (ni nj j i : ℕ) → j < nj → i < ni → (order b ni nj j i < ni * nj) × (rowIn b ni nj (order b ni nj j i) ≡ j) × (columnIn b ni nj (order b ni nj j i) ≡ i)
+ordered : (b : Bool) (ni nj j i : ℕ) → j < nj → i < ni
+    → (order b ni nj j i < ni * nj) × (rowIn b ni nj (order b ni nj j i) ≡ j)
+    × (columnIn b ni nj (order b ni nj j i) ≡ i)
 ordered true ni nj j i hj hi = (digits-lt hi hj, digits-mod i hj, digits-div i hj)
-ordered false ni nj j i hj hi = (subst (λ (x : ℕ). j * ni + i < x) (mul-comm nj ni) (digits-lt hj hi), digits-div j hi, digits-mod j hi)
+ordered false ni nj j i hj hi =
+    (subst (λ (x : ℕ). j * ni + i < x) (mul-comm nj ni) (digits-lt hj hi), digits-div j hi, digits-mod j hi)
 
-parted : (b : Bool) (ni nj k : ℕ) → k < ni * nj → (rowIn b ni nj k < nj) × (columnIn b ni nj k < ni) × (order b ni nj (rowIn b ni nj k) (columnIn b ni nj k) ≡ k)
+parted : (b : Bool) (ni nj k : ℕ) → k < ni * nj
+    → (rowIn b ni nj k < nj) × (columnIn b ni nj k < ni) × (order b ni nj (rowIn b ni nj k) (columnIn b ni nj k) ≡ k)
 parted true ni nj k l =
     let p = right-positive ni nj k l in
     (mod-lt k p, div-lt-iff-lt-mul p .1 l, div-add-mod' k nj)
@@ -55,7 +62,9 @@ module _ (ni nj scan : ℕ) where
   abbrev way : Bool
   way = byColumn scan
 
-  there : (k : ℕ) → k < ni * nj → (spotOf ni nj scan k .row < nj) × (spotOf ni nj scan k .column < ni) × (pointOf ni nj scan (spotOf ni nj scan k) ≡ k)
+  there : (k : ℕ) → k < ni * nj
+      → (spotOf ni nj scan k .row < nj) × (spotOf ni nj scan k .column < ni)
+      × (pointOf ni nj scan (spotOf ni nj scan k) ≡ k)
   unfolding spotOf pointOf
   there k l =
       let h = parted way ni nj k l in
@@ -63,7 +72,8 @@ module _ (ni nj scan : ℕ) where
       let c = turned-back (west scan) ni (columnIn way ni nj k) (h .1) in
       (turned-lt (north scan) nj _ (h .0), turned-lt (west scan) ni _ (h .1), (λ t. order way ni nj (r t) (c t)) ∙ h .2)
 
-  back : (c : Spot) → c .row < nj → c .column < ni → (pointOf ni nj scan c < ni * nj) × (spotOf ni nj scan (pointOf ni nj scan c) ≡ c)
+  back : (c : Spot) → c .row < nj → c .column < ni
+      → (pointOf ni nj scan c < ni * nj) × (spotOf ni nj scan (pointOf ni nj scan c) ≡ c)
   unfolding spotOf pointOf
   back c hr hc =
       let h = ordered way ni nj (turned (north scan) nj (c .row)) (turned (west scan) ni (c .column)) (turned-lt (north scan) nj _ hr) (turned-lt (west scan) ni _ hc) in

@@ -1,4 +1,5 @@
--- Demand 2 at every point: the value that reading hands out at a present point stands among the data by the count of ones before it, and is 0 at an absent one; and the k-th of the data at its bit place. From the definitions.
+-- Demand 2 at every point: the value that reading hands out at a present point stands among the data by the count of
+-- ones before it, and is 0 at an absent one; and the k-th of the data at its bit place. From the definitions.
 use Prim.Native.Nat.{ℕ, zero, suc, _+_, _-_, _*_, _%_, _≤_, _<_}
 use mathlib.Core.Bool.{Bool, cond}
 use mathlib.Core.Path.{_≡_, refl, _∙_, ap}
@@ -18,7 +19,9 @@ use Rattle.rules.specs.Places.{placesOf}
 use Rattle.rules.specs.Bitmap.{Lent, bitmapOctets, bitmapGiven, presentBy}
 use Rattle.rules.specs.Points.{numbered, absent, outside, dataNumber, valueAt, scattered}
 use Rattle.rules.specs.Values.{lengthBad, valuesAt}
-use Rattle.rules.specs.Reading.{ownRefusal, bitmapIn, inForceIn, pointsIn, presentIn, presentCount, packingIn, dataIn, valuesIn, marksIn, foundBy, foundIn, refusedBy, answerBy, headerOf, readRefusal, valuesAfter, marksAfter, numberingOf}
+use Rattle.rules.specs.Reading.{ownRefusal, bitmapIn, inForceIn, pointsIn, presentIn, presentCount, packingIn, dataIn}
+use Rattle.rules.specs.Reading.{valuesIn, marksIn, foundBy, foundIn, refusedBy, answerBy, headerOf, readRefusal}
+use Rattle.rules.specs.Reading.{valuesAfter, marksAfter, numberingOf}
 use Rattle.laws.specs.Taken.{Taken}
 use Rattle.theorems.specs.Reads.{OwnNumber, ValueAtPoint, PackedSimply, ReadKeeps, PresentCounted}
 use Rattle.laws.proofs.Rows.{is-true, is-eq}
@@ -58,8 +61,11 @@ module _ (s : List ℕ) (lent : Lent) (t : Taken s lent) (i : ℕ) (l : i < poin
 
   away : p i ≡ 0 → (numberingOf s lent i ≡ absent) × (valueAt p xs i ≡ 0)
   away none =
-      let not-one : p i ≡ 1 → ⊥ = λ e. omega arith in
-      (numbering ∙ ap (λ (b : Bool). cond b (numbered (count p 0 i)) absent) (ne-eqb (p i) 1 not-one), value-away p xs i not-one)
+      let not-one : p i ≡ 1 → ⊥ = λ e. omega arith in (
+        numbering
+            ∙ ap (λ (b : Bool). cond b (numbered (count p 0 i)) absent) (ne-eqb (p i) 1 not-one),
+        value-away p xs i not-one,
+      )
 
 pub packed-simply : PackedSimply
 packed-simply s lent t k l = record { inside = data-inside s lent t k l; is = data-at s lent k l }
@@ -82,7 +88,8 @@ unfolding presentIn
 own-number s lent t none i l =
     let p = presentIn s lent in
     let each = all-ones (bitmapIn s) (bitmapOctets s (lent .octets) (inForceIn s)) none in
-    numbering s lent t i l ∙ ap (λ (b : Bool). cond b (numbered (count p 0 i)) absent) (eq-eqb (p i) 1 (each i)) ∙ ap numbered (ones-count p each i)
+    numbering s lent t i l ∙ ap (λ (b : Bool). cond b (numbered (count p 0 i)) absent) (eq-eqb (p i) 1 (each i))
+    ∙ ap numbered (ones-count p each i)
 
 pub value-at-point : ValueAtPoint
 unfolding valuesAfter marksAfter valuesIn marksIn scattered
@@ -105,4 +112,6 @@ read-keeps s lent values marks t =
 
 pub present-counted : PresentCounted
 unfolding headerOf answerBy foundIn foundBy presentCount
-present-counted s lent t = ap (λ (b : Bool). cond b (foundIn s lent) (refusedBy (ownRefusal s lent)) .present) (is-true (accepted (ownRefusal s lent)) t)
+present-counted s lent t =
+    ap (λ (b : Bool). cond b (foundIn s lent) (refusedBy (ownRefusal s lent)) .present)
+    (is-true (accepted (ownRefusal s lent)) t)

@@ -1,4 +1,5 @@
--- The writer accepts the parts that reading a taken message gives, into room for what it writes: each of its rows from the reader's.
+-- The writer accepts the parts that reading a taken message gives, into room for what it writes: each of its rows from
+-- the reader's.
 use Prim.Native.Nat.{ℕ, _+_, _*_, _%_, _^_, _≤_, _<_}
 use mathlib.Core.Bool.{Bool, true, false, not, _&&_, cond}
 use mathlib.Core.Path.{_≡_, refl, sym, subst, _∙_, ap}
@@ -16,7 +17,9 @@ use Rattle.bits.proofs.Trip.{Wide, length-runs, wide-runs}
 use Rattle.bits.proofs.Below.{no-below}
 use Rattle.bits.proofs.Cut.{bits-take, run-part}
 use Rattle.bits.proofs.Marks.{wide-tab}
-use Rattle.rules.specs.declared.{Part.Part, Grid.Grid, Found.Found, Found.the-variants.Nothing, Found.the-variants.Given, Bitmap.Bitmap, Bitmap.the-variants.Without, Bitmap.the-variants.Carried, Bitmap.the-variants.Stored}
+use Rattle.rules.specs.declared.{Part.Part, Grid.Grid, Found.Found, Found.the-variants.Nothing}
+use Rattle.rules.specs.declared.{Found.the-variants.Given, Bitmap.Bitmap, Bitmap.the-variants.Without}
+use Rattle.rules.specs.declared.{Bitmap.the-variants.Carried, Bitmap.the-variants.Stored}
 use Rattle.rules.specs.Bounds.{pdsLeast, pdsMost, exponentMost}
 use Rattle.rules.specs.Numbers.{number, sign, signed, beyond}
 use Rattle.rules.specs.Table.{accepted, anyOf}
@@ -25,8 +28,10 @@ use Rattle.rules.specs.Grid.{gridAt, gridMissing, theGrid, gridFaults, pointsOf
 use Rattle.rules.specs.Bitmap.{Lent, bitmapFaults, bitmapGiven, inForce, bitmapOctets, presentBy, markOf, valueOf}
 use Rattle.rules.specs.Points.{valueAt, scattered, gathered}
 use Rattle.rules.specs.Values.{scaleAt, packingFaults}
-use Rattle.rules.specs.Reading.{gridIn, gridOf, pointsIn, bitmapIn, inForceIn, presentIn, presentCount, packingIn, scaleIn, dataIn, valuesIn, marksIn}
-use Rattle.rules.specs.Writing.{Parts, gridFor, pointsFor, pdsFaults, listsFit, storedFaults, gridGiven, pointBad, differ, partsFaults, message, writeRefusal}
+use Rattle.rules.specs.Reading.{gridIn, gridOf, pointsIn, bitmapIn, inForceIn, presentIn, presentCount, packingIn}
+use Rattle.rules.specs.Reading.{scaleIn, dataIn, valuesIn, marksIn}
+use Rattle.rules.specs.Writing.{Parts, gridFor, pointsFor, pdsFaults, listsFit, storedFaults, gridGiven, pointBad}
+use Rattle.rules.specs.Writing.{differ, partsFaults, message, writeRefusal}
 use Rattle.rules.specs.RoundTrip.{partsIn}
 use Rattle.laws.specs.Taken.{Taken}
 use Rattle.bits.proofs.Tests.{or-none}
@@ -44,7 +49,8 @@ use Rattle.theorems.proofs.BitmapSection.{present-bits, present-absent}
 use Rattle.theorems.proofs.Offered.{unoffered}
 
 -- the writer's row 10, of a bitmap that the reader took
-stored-none : (m : Bitmap) (s : List ℕ) (lent : Lent) (p : Part) (values marks : List ℕ) (n : ℕ) → anyOf (bitmapFaults s lent p m n) ≡ false
+stored-none : (m : Bitmap) (s : List ℕ) (lent : Lent) (p : Part) (values marks : List ℕ) (n : ℕ)
+    → anyOf (bitmapFaults s lent p m n) ≡ false
     → ((i : ℕ) → i < n → markOf marks i ≡ presentBy m (bitmapOctets s (lent .octets) (inForce m p n)) i)
     → anyOf (storedFaults m lent values marks n) ≡ false
 unfolding bitmapFaults presentBy bitmapOctets inForce storedFaults
@@ -53,12 +59,15 @@ stored-none Carried s lent p values marks n h same = any-none [] tt
 stored-none (Stored j) s lent p values marks n h same =
     let g = none-of (bitmapFaults s lent p (Stored j) n) h in
     any-none _ (
-      gated (listsFit values marks n) _ (λ q. no-below _ n (λ i l. not-eq _ _ (sym (same i l ∙ bits-take (octetsFor n) (lent .octets) i (omega arith))))),
+      gated (listsFit values marks n) _
+          (λ q. no-below _ n
+          (λ i l. not-eq _ _ (sym (same i l ∙ bits-take (octetsFor n) (lent .octets) i (omega arith))))),
       g .1 .1,
     )
 
 -- its row 13, at a point
-point-none : (bitmap : Bool) (bits mark value : ℕ) → (mark ≡ 0 → bitmap ≡ true) → (mark ≡ 0 → value ≡ 0) → value < 2 ^ bits → pointBad bitmap bits mark value ≡ false
+point-none : (bitmap : Bool) (bits mark value : ℕ) → (mark ≡ 0 → bitmap ≡ true) → (mark ≡ 0 → value ≡ 0)
+    → value < 2 ^ bits → pointBad bitmap bits mark value ≡ false
 unfolding pointBad
 point-none bitmap bits mark value b c d =
     or-none _ _ (gated (eqb mark 0) _ (λ q. let z = eqb-true mark 0 q in or-none _ _ (ap not (b z)) (not-eq value 0 (c z)))) (lt-leb (2 ^ bits) value d)
@@ -96,10 +105,14 @@ module _ (s : List ℕ) (lent : Lent) (t : Taken s lent) where
   fits = omega (arith, at .at-gds, at .at-bms, at .at-bds, at .end)
 
   pds-length : length (w .pds) ≡ P .len
-  pds-length = ap length pds-is ∙ length-take-le (P .len) (drop 8 s) (subst (λ (x : ℕ). P .len ≤ x) (sym (length-drop 8 s)) (omega (arith, fits)))
+  pds-length =
+      ap length pds-is
+      ∙ length-take-le (P .len) (drop 8 s) (subst (λ (x : ℕ). P .len ≤ x) (sym (length-drop 8 s)) (omega (arith, fits)))
 
   pub pds-octet : (i : ℕ) → i < pdsLeast → getD s (pdsStart + i) 0 ≡ getD (w .pds) i 0
-  pds-octet i l = sym (ap (λ (x : List ℕ). getD x i 0) pds-is ∙ getD-take (P .len) (drop 8 s) i 0 (omega (arith, at .pds .least refl)) ∙ getD-drop 8 s i 0)
+  pds-octet i l =
+      sym (ap (λ (x : List ℕ). getD x i 0) pds-is
+      ∙ getD-take (P .len) (drop 8 s) i 0 (omega (arith, at .pds .least refl)) ∙ getD-drop 8 s i 0)
 
   -- the grid, and its points
   pub grid-for : gridFor w ≡ gridOf s
@@ -122,7 +135,9 @@ module _ (s : List ℕ) (lent : Lent) (t : Taken s lent) where
   unfolding partsIn marksIn
   marks-bits = wide-tab (presentIn s lent) n present
 
-  pub by-map : (i : ℕ) → i < n → markOf (w .marks) i ≡ presentBy (bitmapIn s) (bitmapOctets s (lent .octets) (inForce (bitmapIn s) (placesOf s .bms) n)) i
+  pub by-map : (i : ℕ) → i < n
+      → markOf (w .marks) i
+      ≡ presentBy (bitmapIn s) (bitmapOctets s (lent .octets) (inForce (bitmapIn s) (placesOf s .bms) n)) i
   unfolding presentIn inForceIn
   by-map i l = marks-is i l
 
@@ -147,8 +162,14 @@ module _ (s : List ℕ) (lent : Lent) (t : Taken s lent) where
       any-none _ (
         ne-eqb (length (w .pds) % 2) 1 (λ q. c .even refl (ap (λ (x : ℕ). x % 2) (sym pds-length) ∙ q)),
         (
-          outside-no pdsLeast pdsMost (length (w .pds)) (omega (arith, pds-length, c .least refl)) (omega (arith, pds-length, at .most)),
-          (not-eq _ _ (ap (λ (x : List ℕ). number x 0 1 3) pds-is ∙ run-part s 8 (P .len) 0 24 (omega (arith, c .least refl)) ∙ says ∙ sym pds-length), tt),
+          outside-no pdsLeast pdsMost (length (w .pds)) (omega (arith, pds-length, c .least refl))
+              (omega (arith, pds-length, at .most)),
+          (
+            not-eq _ _
+                (ap (λ (x : List ℕ). number x 0 1 3) pds-is ∙ run-part s 8 (P .len) 0 24 (omega (arith, c .least refl))
+                ∙ says ∙ sym pds-length),
+            tt,
+          ),
         ),
       )
 
@@ -157,7 +178,8 @@ module _ (s : List ℕ) (lent : Lent) (t : Taken s lent) where
   row11 =
       let v = number s (placesOf s .bds .start) 5 6 in
       let h : natAbs (signed 2 v .value) < sign 2 = signed-size 2 v (run-lt (bitsIn-bits 8 s) ((placesOf s .bds .start + 4) * 8) 16) in
-      any-none _ (beyond-no exponentMost (signed 2 v .value) (omega arith), none-of (packingFaults (packingIn s)) (j .packing))
+      any-none _
+      (beyond-no exponentMost (signed 2 v .value) (omega arith), none-of (packingFaults (packingIn s)) (j .packing))
 
   lists-fit : listsFit (w .values) (w .marks) (pointsFor w) ≡ true
   unfolding partsIn valuesIn marksIn scattered listsFit
@@ -170,12 +192,15 @@ module _ (s : List ℕ) (lent : Lent) (t : Taken s lent) where
   unfolding presentIn
   absent i = present-absent (bitmapIn s) (bitmapOctets s (lent .octets) (inForceIn s)) i
 
-  point : (i : ℕ) → i < n → pointBad (bitmapGiven (bitmapIn s)) (packingIn s .bits) (markOf (w .marks) i) (valueOf (w .values) i) ≡ false
+  point : (i : ℕ) → i < n
+      → pointBad (bitmapGiven (bitmapIn s)) (packingIn s .bits) (markOf (w .marks) i) (valueOf (w .values) i) ≡ false
   point i l =
       let e = marks-is i l in
       let v = values-is i l in
-      point-none _ _ _ _ (λ z. absent i (sym e ∙ z)) (λ z. v ∙ value-away (presentIn s lent) xs i (apart (presentIn s lent i) (sym e ∙ z)))
-      (subst (λ (x : ℕ). x < 2 ^ packingIn s .bits) (sym v) (value-lt (presentIn s lent) xs (packingIn s .bits) (data-wide s lent) i))
+      point-none _ _ _ _ (λ z. absent i (sym e ∙ z))
+      (λ z. v ∙ value-away (presentIn s lent) xs i (apart (presentIn s lent i) (sym e ∙ z)))
+      (subst (λ (x : ℕ). x < 2 ^ packingIn s .bits) (sym v)
+      (value-lt (presentIn s lent) xs (packingIn s .bits) (data-wide s lent) i))
     where
       apart : (x : ℕ) → x ≡ 0 → x ≡ 1 → ⊥
       apart x e f = omega arith
@@ -189,7 +214,9 @@ module _ (s : List ℕ) (lent : Lent) (t : Taken s lent) where
       (
         no-below _ (pointsFor w) (λ i l. point i (subst (λ (x : ℕ). i < x) points-for l)),
         (
-          differ-none _ _ (sym (grid-same s pdsStart (w .pds) pds-octet) ∙ grid-given (hasGrid s pdsStart) (gridAt s (placesOf s .gds .start))),
+          differ-none _ _
+              (sym (grid-same s pdsStart (w .pds) pds-octet)
+              ∙ grid-given (hasGrid s pdsStart) (gridAt s (placesOf s .gds .start))),
           (differ-none _ _ (sym (bitmap-same s pdsStart (w .pds) pds-octet) ∙ kind s), tt),
         ),
       ),

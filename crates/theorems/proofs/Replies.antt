@@ -1,5 +1,6 @@
--- Demand 1: a table gives the reply of its first row that applies, and no number but its rows', by induction on it; a refusal keeps every lent list and an accepted call
--- writes its front alone, by the definition of `filled`; an answer is whole, by that of `answered`.
+-- Demand 1: a table gives the reply of its first row that applies, and no number but its rows', by induction on it; a
+-- refusal keeps every lent list and an accepted call writes its front alone, by the definition of `filled`; an answer
+-- is whole, by that of `answered`.
 use Prim.Native.Nat.{ℕ, _<_}
 use mathlib.Core.Bool.{Bool, true, false, cond}
 use mathlib.Core.Path.{_≡_, refl, _∙_, ap}
@@ -12,22 +13,27 @@ use lib.ListN.{length, take, drop}
 use lib.Seq.{take-append-seam, drop-append-seam}
 use Rattle.rules.specs.declared.{Refusal.Refusal, Form.Form}
 use Rattle.rules.specs.Table.{Row, given, refusal, accepted, firstOr, first, answered, filled}
-use Rattle.rules.specs.Reading.{messageTable, ownRefusal, answerBy, headerOf, readTable, readRefusal, readOf, bitmapOf, numberingOf}
+use Rattle.rules.specs.Reading.{messageTable, ownRefusal, answerBy, headerOf, readTable, readRefusal, readOf, bitmapOf}
+use Rattle.rules.specs.Reading.{numberingOf}
 use Rattle.rules.specs.Bitmap.{Lent}
 use Rattle.rules.specs.Display.{displayTable, displayOf}
 use Rattle.rules.specs.Writing.{Parts, lengthOf, writeTable, writeRefusal, writeOf}
 use Rattle.rules.specs.Checking.{Source, checkTable}
 use Rattle.rules.specs.Packing.{packTable, packRefusal, packOf}
 use Rattle.laws.specs.Tables.{Clear}
-use Rattle.theorems.specs.Replies.{Stops, RefusalFirst, numbers, Among, ReplyAmong, RowNumbers, Whole, TakenOrRefused, RefusalKeeps, AcceptedFills}
+use Rattle.theorems.specs.Replies.{Stops, RefusalFirst, numbers, Among, ReplyAmong, RowNumbers, Whole}
+use Rattle.theorems.specs.Replies.{TakenOrRefused, RefusalKeeps, AcceptedFills}
 use Rattle.laws.proofs.Rows.{is-true, zero-of}
 use Rattle.laws.proofs.Judged.{own-zero, read-zero}
 
-on-top : (test : Bool) (r : Refusal) (rows : List Row) → (Clear rows × (first rows ≡ refusal 0)) ⊎ Stops rows (first rows)
-    → (Clear (given r test ∷ rows) × (cond test r (first rows) ≡ refusal 0)) ⊎ Stops (given r test ∷ rows) (cond test r (first rows))
+on-top : (test : Bool) (r : Refusal) (rows : List Row)
+    → (Clear rows × (first rows ≡ refusal 0)) ⊎ Stops rows (first rows)
+    → (Clear (given r test ∷ rows) × (cond test r (first rows) ≡ refusal 0)) ⊎ Stops (given r test ∷ rows)
+    (cond test r (first rows))
 on-top true r rows h = inr (record { above = []; below = rows; clear = tt; here = refl })
 on-top false r rows (inl h) = inl ((refl, h .0), h .1)
-on-top false r rows (inr h) = inr (record { above = given r false ∷ h .above; below = h .below; clear = (refl, h .clear); here = ap (λ (x : List Row). given r false ∷ x) (h .here) })
+on-top false r rows (inr h) =
+    inr (record { above = given r false ∷ h .above; below = h .below; clear = (refl, h .clear); here = ap (λ (x : List Row). given r false ∷ x) (h .here) })
 
 pub refusal-first : RefusalFirst
 unfolding first firstOr
@@ -55,7 +61,8 @@ handed-is r m out t =
     let h = accepted-fills r m out t in
     ap (λ (k : ℕ). take k (filled r m out)) (h .len) ∙ h .written
 
-among-on : (test : Bool) (r below : Refusal) (xs : List ℕ) → Among (below .number) (0 ∷ xs) → Among (cond test r below .number) (0 ∷ r .number ∷ xs)
+among-on : (test : Bool) (r below : Refusal) (xs : List ℕ) → Among (below .number) (0 ∷ xs)
+    → Among (cond test r below .number) (0 ∷ r .number ∷ xs)
 among-on true r below xs h = inr (inl refl)
 among-on false r below xs (inl e) = inl e
 among-on false r below xs (inr h) = inr (inr h)
@@ -77,7 +84,8 @@ row-numbers = record {
 }
 
 -- what is answered by a reply: found or zeros
-whole : {A : Type 0} (r : Refusal) → (accepted r ≡ true → r ≡ refusal 0) → (found zeros : A) → Whole r found zeros (answered r found zeros)
+whole : {A : Type 0} (r : Refusal) → (accepted r ≡ true → r ≡ refusal 0) → (found zeros : A)
+    → Whole r found zeros (answered r found zeros)
 whole {A} r z found zeros = go (accepted r) refl
   where
     positive : (n : ℕ) → (n ≡ 0 → ⊥) → 0 < n
@@ -88,17 +96,22 @@ whole {A} r z found zeros = go (accepted r) refl
     go false e = inr (positive (r .number) (eqb-false (r .number) 0 e), ap (λ (b : Bool). cond b found zeros) e)
 
 -- the tables of all that is answered: an accepted one's reply is refusal 0
-display-zero : (s : List ℕ) (lent : Lent) → accepted (first (displayTable s lent)) ≡ true → first (displayTable s lent) ≡ refusal 0
+display-zero : (s : List ℕ) (lent : Lent) → accepted (first (displayTable s lent)) ≡ true
+    → first (displayTable s lent) ≡ refusal 0
 unfolding displayTable messageTable
-display-zero s lent = zero-of (displayTable s lent) (tt, (tt, (tt, (tt, (tt, (tt, (tt, (tt, (tt, (tt, (tt, (tt, (tt, tt)))))))))))))
+display-zero s lent =
+    zero-of (displayTable s lent) (tt, (tt, (tt, (tt, (tt, (tt, (tt, (tt, (tt, (tt, (tt, (tt, (tt, tt)))))))))))))
 
 write-zero : (w : Parts) (out : List ℕ) → accepted (writeRefusal w out) ≡ true → writeRefusal w out ≡ refusal 0
 unfolding writeRefusal writeTable
 write-zero w out = zero-of (writeTable w out) (tt, (tt, (tt, (tt, (tt, (tt, (tt, (tt, tt))))))))
 
-pack-zero : (pds : List ℕ) (form : Form) (lent : Lent) (f : Source) (out : List ℕ) → accepted (packRefusal pds form lent f out) ≡ true → packRefusal pds form lent f out ≡ refusal 0
+pack-zero : (pds : List ℕ) (form : Form) (lent : Lent) (f : Source) (out : List ℕ)
+    → accepted (packRefusal pds form lent f out) ≡ true → packRefusal pds form lent f out ≡ refusal 0
 unfolding packRefusal packTable writeTable
-pack-zero pds form lent f out = zero-of (packTable pds form lent f out) (tt, (tt, (tt, (tt, (tt, (tt, (tt, (tt, (tt, (tt, (tt, (tt, (tt, tt)))))))))))))
+pack-zero pds form lent f out =
+    zero-of (packTable pds form lent f out)
+    (tt, (tt, (tt, (tt, (tt, (tt, (tt, (tt, (tt, (tt, (tt, (tt, (tt, tt)))))))))))))
 
 pub taken-or-refused : TakenOrRefused
 unfolding headerOf readOf answerBy displayOf bitmapOf numberingOf writeOf packOf lengthOf

@@ -1,4 +1,5 @@
--- Demand 2: what a caller finds written reads back to the same parts; the message stands in the lent output, it is taken with those parts, and reading hands them out.
+-- Demand 2: what a caller finds written reads back to the same parts; the message stands in the lent output, it is
+-- taken with those parts, and reading hands them out.
 use Prim.Native.Nat.{ℕ, _≤_}
 use mathlib.Core.Path.{_≡_, sym, subst}
 use mathlib.Core.List.{List}
@@ -22,7 +23,8 @@ returned w s t e =
       parts = e;
       tells = λ values marks rv rm.
           subst (Tells s (w .lent) values marks) e
-          (read-tells s (w .lent) values marks t (subst (λ (k : ℕ). k ≤ length values) n rv) (subst (λ (k : ℕ). k ≤ length marks) n rm));
+          (read-tells s (w .lent) values marks t (subst (λ (k : ℕ). k ≤ length values) n rv)
+          (subst (λ (k : ℕ). k ≤ length marks) n rm));
     }
 
 pub read-after-write : ReadAfterWrite

@@ -1,4 +1,5 @@
--- The rounding law: X × 2^E is at most half a step from r, for E = 0 and for E more than 0, by the two facts about a quotient; so it is near V where r = V − R.
+-- The rounding law: X × 2^E is at most half a step from r, for E = 0 and for E more than 0, by the two facts about a
+-- quotient; so it is near V where r = V − R.
 use Prim.Native.Nat.{ℕ, zero, suc, _+_, _*_, _/_, _^_, _≤_, _<_}
 use mathlib.Core.Bool.{false}
 use mathlib.Core.Path.{_≡_, sym, subst}
@@ -28,7 +29,8 @@ half-step : (e r : ℕ) → 2 * natAbs (pos r -ℤ pos (stepped e r * 2 ^ e)) �
 half-step e r = let h = rounded e r in twice-apart r (stepped e r * 2 ^ e) (2 ^ e) (h .under) (h .over)
 
 -- so X is near enough to a number v that is not below r
-pub near : (e : ℕ) (v r : ℤ) → ltZ v r ≡ false → 2 * natAbs (v -ℤ r -ℤ pos (stepped e (natAbs (v -ℤ r)) * 2 ^ e)) ≤ 2 ^ e
+pub near : (e : ℕ) (v r : ℤ) → ltZ v r ≡ false
+    → 2 * natAbs (v -ℤ r -ℤ pos (stepped e (natAbs (v -ℤ r)) * 2 ^ e)) ≤ 2 ^ e
 near e v r l =
     let d = natAbs (v -ℤ r) in
     subst (λ (z : ℤ). 2 * natAbs (z -ℤ pos (stepped e d * 2 ^ e)) ≤ 2 ^ e) (sym (gap v r l)) (half-step e d)

@@ -1,9 +1,11 @@
--- R's spelling stands for the number, in 32 bits, with a leading hex digit that is not zero: its hex digits are the least that hold it, and powers of 16 carry them to B.
+-- R's spelling stands for the number, in 32 bits, with a leading hex digit that is not zero: its hex digits are the
+-- least that hold it, and powers of 16 carry them to B.
 use Prim.Native.Nat.{ℕ, zero, suc, _+_, _-_, _*_, _/_, _^_, _≤_, _<_}
 use mathlib.Core.Bool.{Bool, true, false, cond}
 use mathlib.Core.Path.{_≡_, refl, sym, subst, _∙_, ap}
 use native.Mathlib.Omega.{arith}
-use native.Mathlib.Nat.{mul-assoc, mul-div-cancel, mul-le-mul-right, mul-lt-mul-of-pos-right, one-le-pow, not-suc-le-zero}
+use native.Mathlib.Nat.{mul-assoc, mul-div-cancel, mul-le-mul-right, mul-lt-mul-of-pos-right, one-le-pow}
+use native.Mathlib.Nat.{not-suc-le-zero}
 use borrow.Author.Tests.{ltb-true, ltb-false, eq-eqb}
 use lib.Dec.{ltb, eqb, lit<, eqb·suc-zero}
 use lib.Pow.{pow-add}
@@ -48,7 +50,8 @@ fraction m h d =
     let q : 16 ^ (h - 1) * 16 ^ (6 - h) ≡ 2 ^ 20 = power (h - 1) (6 - h) 5 (omega (arith, d .most, d .some)) in
     let r : 16 ^ (6 - h) * 16 ^ (64 + h) ≡ unit = power (6 - h) (64 + h) 70 (omega (arith, d .most)) in
     record {
-      under = subst (λ (x : ℕ). m * 16 ^ (6 - h) < x) p (mul-lt-mul-of-pos-right (d .over) (one-le-pow (6 - h) 16 (lit< tt)));
+      under = subst (λ (x : ℕ). m * 16 ^ (6 - h) < x) p
+          (mul-lt-mul-of-pos-right (d .over) (one-le-pow (6 - h) 16 (lit< tt)));
       lead = subst (λ (x : ℕ). x ≤ m * 16 ^ (6 - h)) q (mul-le-mul-right (16 ^ (6 - h)) (d .least));
       size = mul-assoc m (16 ^ (6 - h)) (16 ^ (64 + h)) ∙ ap (λ (x : ℕ). m * x) r;
     }
@@ -77,7 +80,8 @@ spelled s m h p d =
     let g = fields s (64 + h) (m * 16 ^ (6 - h)) p (omega (arith, d .most)) (f .under) in
     record {
       s-is = g .s-is;
-      size-is = ap (λ (x : ℕ). x * 16 ^ aOf (s * 2 ^ 31 + (64 + h) * 2 ^ 24 + m * 16 ^ (6 - h))) (g .b-is) ∙ ap (λ (x : ℕ). m * 16 ^ (6 - h) * 16 ^ x) (g .a-is) ∙ f .size;
+      size-is = ap (λ (x : ℕ). x * 16 ^ aOf (s * 2 ^ 31 + (64 + h) * 2 ^ 24 + m * 16 ^ (6 - h))) (g .b-is)
+          ∙ ap (λ (x : ℕ). m * 16 ^ (6 - h) * 16 ^ x) (g .a-is) ∙ f .size;
       fits = g .fits;
       lead = λ _. subst (λ (x : ℕ). 2 ^ 20 ≤ x) (sym (g .b-is)) (f .lead);
     }
@@ -89,14 +93,21 @@ zero-spelling = record { s-is = refl; size-is = refl; fits = lit< tt; lead = λ 
 spelling : (z : ℤ) → natAbs z ≤ sourceMost → Spelling (negative z) (natAbs z) (spellingOf z)
 unfolding spellingOf
 spelling (pos zero) l = zero-spelling
-spelling (pos (suc n)) l = simp (eqb·suc-zero n) (spelled 0 (suc n) _ (omega arith) (digits-of (suc n) _ (omega arith) (omega arith) (least (λ k. ltb (suc n) (16 ^ k)) 6)))
-spelling (negsuc n) l = simp (eqb·suc-zero n) (spelled 1 (suc n) _ (omega arith) (digits-of (suc n) _ (omega arith) (omega arith) (least (λ k. ltb (suc n) (16 ^ k)) 6)))
+spelling (pos (suc n)) l =
+    simp (eqb·suc-zero n)
+    (spelled 0 (suc n) _ (omega arith)
+    (digits-of (suc n) _ (omega arith) (omega arith) (least (λ k. ltb (suc n) (16 ^ k)) 6)))
+spelling (negsuc n) l =
+    simp (eqb·suc-zero n)
+    (spelled 1 (suc n) _ (omega arith)
+    (digits-of (suc n) _ (omega arith) (omega arith) (least (λ k. ltb (suc n) (16 ^ k)) 6)))
 
 sized : (s m r : ℕ) → Spelling s m r → wholeOf r ≡ cond (eqb s 0) (pos m) (negℤ (pos m))
 unfolding wholeOf
 sized s m r h =
     let e : sizeOf r / unit ≡ m = ap (λ (x : ℕ). x / unit) (h .size-is) ∙ mul-div-cancel m (lit< tt) in
-    ap (λ (x : ℕ). cond (eqb x 0) (pos (sizeOf r / unit)) (negℤ (pos (sizeOf r / unit)))) (h .s-is) ∙ ap (λ (x : ℕ). cond (eqb s 0) (pos x) (negℤ (pos x))) e
+    ap (λ (x : ℕ). cond (eqb x 0) (pos (sizeOf r / unit)) (negℤ (pos (sizeOf r / unit)))) (h .s-is)
+    ∙ ap (λ (x : ℕ). cond (eqb s 0) (pos x) (negℤ (pos x))) e
 
 signs : (z : ℤ) → cond (eqb (negative z) 0) (pos (natAbs z)) (negℤ (pos (natAbs z))) ≡ z
 signs (pos n) = refl

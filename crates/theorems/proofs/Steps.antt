@@ -1,5 +1,5 @@
--- The packer's E is the least for which all X fit, and none of 0 to 24 does exactly where N is 0 and the spread is half of the greatest step or more: there X is 1 at every
--- E, and elsewhere X at E = 24 is at most 1, below 2^N.
+-- The packer's E is the least for which all X fit, and none of 0 to 24 does exactly where N is 0 and the spread is half
+-- of the greatest step or more: there X is 1 at every E, and elsewhere X at E = 24 is at most 1, below 2^N.
 use Prim.Native.Nat.{ℕ, zero, suc, _-_, _*_, _^_, _≤_, _<_}
 use mathlib.Core.Bool.{true}
 use mathlib.Core.Logic.{⊎-elim}
@@ -88,5 +88,10 @@ no-step-fits f bits ok = (there, back)
         (λ g.
         let o = h .1 in
         let z : 2 ^ bits ≡ 1 = ap (λ (k : ℕ). 2 ^ k) (h .0) in
-        absurd (omega (arith, step-fits f bits g (o .at) (o .below) (o .here), each-over (exponent f bits) (above f (o .at)) g (o .holds))))
+        absurd (omega (
+          arith,
+          step-fits f bits g (o .at) (o .below) (o .here),
+          each-over (exponent f bits) (above f (o .at)) g
+              (o .holds),
+        )))
         (lt-or-ge stepMost (exponent f bits))

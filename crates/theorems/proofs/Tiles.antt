@@ -1,4 +1,5 @@
--- Demand 2: the sections of a taken message tile it, as they lie and as they are handed out, and each has the octets of its fields; from row 5, which says that each section starts where the one before ends.
+-- Demand 2: the sections of a taken message tile it, as they lie and as they are handed out, and each has the octets of
+-- its fields; from row 5, which says that each section starts where the one before ends.
 use Prim.Native.Nat.{ℕ, _+_, _-_, _≤_, _<_}
 use mathlib.Core.Bool.{Bool, true, false, cond}
 use mathlib.Core.Path.{_≡_, refl, sym, subst, _∙_, ap}
@@ -12,11 +13,13 @@ use Rattle.bits.proofs.Cut.{cut}
 use Rattle.rules.specs.declared.{Part.Part}
 use Rattle.rules.specs.Numbers.{joined}
 use Rattle.rules.specs.Table.{accepted}
-use Rattle.rules.specs.Places.{octetsOf, noPart, after, endStart, pdsStart, hasGrid, hasBitmap, placesOf, sectionsOf, sectionAt}
+use Rattle.rules.specs.Places.{octetsOf, noPart, after, endStart, pdsStart, hasGrid, hasBitmap, placesOf, sectionsOf}
+use Rattle.rules.specs.Places.{sectionAt}
 use Rattle.rules.specs.Bitmap.{Lent}
 use Rattle.rules.specs.Reading.{ownRefusal, sectionOf}
 use Rattle.laws.specs.Taken.{Taken}
-use Rattle.theorems.specs.Reads.{SectionsTile, Adjoining, withOctets, Adjoined, SectionsAdjoin, HandedBack, SectionsHanded, RefusedHasNone}
+use Rattle.theorems.specs.Reads.{SectionsTile, Adjoining, withOctets, Adjoined, SectionsAdjoin, HandedBack}
+use Rattle.theorems.specs.Reads.{SectionsHanded, RefusedHasNone}
 use Rattle.laws.proofs.Rows.{is-true}
 use Rattle.laws.proofs.Sections.{sections}
 
@@ -26,14 +29,23 @@ front s a n rest e = ap (λ (r : List ℕ). take n (drop a s) ++ r) e ∙ cut s 
 
 -- the last four octets are all that follow their place
 last : (s : List ℕ) → 4 ≤ length s → take 4 (drop (length s - 4) s) ≡ drop (length s - 4) s
-last s h = take-all 4 (drop (length s - 4) s) (subst (λ (k : ℕ). k ≤ 4) (sym (length-drop (length s - 4) s)) (omega arith))
+last s h =
+    take-all 4 (drop (length s - 4) s) (subst (λ (k : ℕ). k ≤ 4) (sym (length-drop (length s - 4) s)) (omega arith))
 
 -- six parts that start at 0 and one after another, the last with the four last octets
 six : (s : List ℕ) (a b c d : ℕ) → 8 + a + b + c + d + 4 ≡ length s
-    → take 8 (drop 0 s) ++ (take a (drop 8 s) ++ (take b (drop (8 + a) s) ++ (take c (drop (8 + a + b) s) ++ (take d (drop (8 + a + b + c) s) ++ (take 4 (drop (length s - 4) s) ++ []))))) ≡ s
+    → take 8 (drop 0 s)
+    ++ (take a (drop 8 s)
+    ++ (take b (drop (8 + a) s)
+    ++ (take c (drop (8 + a + b) s) ++ (take d (drop (8 + a + b + c) s) ++ (take 4 (drop (length s - 4) s) ++ [])))))
+    ≡ s
 six s a b c d e =
     let f : length s - 4 ≡ 8 + a + b + c + d = omega arith in
-    front s 0 8 _ (front s 8 a _ (front s (8 + a) b _ (front s (8 + a + b) c _ (front s (8 + a + b + c) d _ (append-nil _ ∙ last s (omega arith) ∙ ap (λ (k : ℕ). drop k s) f)))))
+    front s 0 8 _
+    (front s 8 a _
+    (front s (8 + a) b _
+    (front s (8 + a + b) c _
+    (front s (8 + a + b + c) d _ (append-nil _ ∙ last s (omega arith) ∙ ap (λ (k : ℕ). drop k s) f)))))
 
 pub sections-tile : SectionsTile
 unfolding sectionsOf placesOf sectionAt joined
@@ -57,13 +69,15 @@ left-out from p parts to e h false z = (e, h)
 
 few : (from : ℕ) (parts : List Part) (to : ℕ) → Adjoining from parts to → Adjoining from (withOctets parts) to
 few from [] to h = h
-few from (p ∷ parts) to h = left-out from p (withOctets parts) to (h .0) (few (after p) parts to (h .1)) (eqb (p .len) 0) refl
+few from (p ∷ parts) to h =
+    left-out from p (withOctets parts) to (h .0) (few (after p) parts to (h .1)) (eqb (p .len) 0) refl
 
 -- and so can the empty part in the place of one
 abbrev emptied : Part → Part
 emptied p = cond (eqb (p .len) 0) noPart p
 
-same-left : (p : Part) (x y : List Part) → x ≡ y → (b : Bool) → eqb (p .len) 0 ≡ b → cond (eqb (cond b noPart p .len) 0) x (cond b noPart p ∷ x) ≡ cond b y (p ∷ y)
+same-left : (p : Part) (x y : List Part) → x ≡ y → (b : Bool) → eqb (p .len) 0 ≡ b
+    → cond (eqb (cond b noPart p .len) 0) x (cond b noPart p ∷ x) ≡ cond b y (p ∷ y)
 same-left p x y e true z = e
 same-left p x y e false z = ap (λ (b : Bool). cond b x (p ∷ x)) z ∙ ap (λ (l : List Part). p ∷ l) e
 
@@ -77,7 +91,9 @@ module _ (s : List ℕ) (lent : Lent) (t : Taken s lent) where
 
   handed : (k : ℕ) → sectionOf s lent k ≡ cond (eqb (lies k .len) 0) noPart (lies k)
   unfolding sectionOf
-  handed k = ap (λ (b : Bool). cond b (cond (eqb (lies k .len) 0) noPart (lies k)) noPart) (is-true (accepted (ownRefusal s lent)) t)
+  handed k =
+      ap (λ (b : Bool). cond b (cond (eqb (lies k .len) 0) noPart (lies k)) noPart)
+      (is-true (accepted (ownRefusal s lent)) t)
 
   handed-octets : (k : ℕ) → octetsOf s (sectionOf s lent k) ≡ octetsOf s (lies k)
   handed-octets k = ap (octetsOf s) (handed k) ∙ none-or s (lies k)
@@ -97,7 +113,9 @@ module _ (s : List ℕ) (lent : Lent) (t : Taken s lent) where
   unfolding sectionsOf placesOf sectionAt
   handed-back = record {
     tile =
-        (λ i. joined (handed-octets 0 i ∷ handed-octets 1 i ∷ handed-octets 2 i ∷ handed-octets 3 i ∷ handed-octets 4 i ∷ handed-octets 5 i ∷ []))
+        (λ i. joined
+        (handed-octets 0 i ∷ handed-octets 1 i ∷ handed-octets 2 i ∷ handed-octets 3 i ∷ handed-octets 4 i
+        ∷ handed-octets 5 i ∷ []))
         ∙ sections-tile s lent t;
     gds = λ e. handed-none 2 (absent-len (hasGrid s pdsStart) _ e);
     bms = λ e. handed-none 3 (absent-len (hasBitmap s pdsStart) _ e);
@@ -112,7 +130,9 @@ module _ (s : List ℕ) (lent : Lent) (t : Taken s lent) where
 
   handed-parts : withOctets (map (sectionOf s lent) (0 ∷ 1 ∷ 2 ∷ 3 ∷ 4 ∷ 5 ∷ [])) ≡ withOctets (sectionsOf s)
   unfolding sectionsOf
-  handed-parts = (λ i. withOctets (handed 0 i ∷ handed 1 i ∷ handed 2 i ∷ handed 3 i ∷ handed 4 i ∷ handed 5 i ∷ [])) ∙ same-octets (sectionsOf s)
+  handed-parts =
+      (λ i. withOctets (handed 0 i ∷ handed 1 i ∷ handed 2 i ∷ handed 3 i ∷ handed 4 i ∷ handed 5 i ∷ []))
+      ∙ same-octets (sectionsOf s)
 
   adjoined : Adjoined s lent
   unfolding placesOf sectionAt
@@ -128,7 +148,8 @@ module _ (s : List ℕ) (lent : Lent) (t : Taken s lent) where
         without-gds = absent-len (hasGrid s pdsStart) _;
         without-bms = absent-len (hasBitmap s pdsStart) _;
         lie = one-by-one;
-        handed = subst (λ (parts : List Part). Adjoining 0 parts (length s)) (sym handed-parts) (few 0 (sectionsOf s) (length s) one-by-one);
+        handed = subst (λ (parts : List Part). Adjoining 0 parts (length s)) (sym handed-parts)
+            (few 0 (sectionsOf s) (length s) one-by-one);
       }
 
 pub sections-adjoin : SectionsAdjoin

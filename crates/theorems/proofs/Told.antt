@@ -1,4 +1,5 @@
--- What reading hands out of a taken message is the parts that it has: each field of the header, and the fronts of the two lists; from the definitions, with the PDS cut out.
+-- What reading hands out of a taken message is the parts that it has: each field of the header, and the fronts of the
+-- two lists; from the definitions, with the PDS cut out.
 use Prim.Native.Nat.{ℕ, _≤_}
 use mathlib.Core.Bool.{Bool, _||_, cond}
 use mathlib.Core.Path.{_≡_, refl, sym, _∙_, ap}
@@ -17,7 +18,9 @@ use Rattle.rules.specs.Places.{octetsOf, pdsStart, placesOf, sectionAt}
 use Rattle.rules.specs.Grid.{theGrid}
 use Rattle.rules.specs.Bitmap.{Lent, markOf}
 use Rattle.rules.specs.Points.{scattered}
-use Rattle.rules.specs.Reading.{pointsIn, presentIn, presentCount, packingIn, scaleIn, decimalIn, valuesIn, marksIn, messageTable, parsedOf, foundBy, foundIn, refusedBy, answerBy, readTable, readRefusal, readOf, valuesAfter, marksAfter}
+use Rattle.rules.specs.Reading.{pointsIn, presentIn, presentCount, packingIn, scaleIn, decimalIn, valuesIn, marksIn}
+use Rattle.rules.specs.Reading.{messageTable, parsedOf, foundBy, foundIn, refusedBy, answerBy, readTable, readRefusal}
+use Rattle.rules.specs.Reading.{readOf, valuesAfter, marksAfter}
 use Rattle.rules.specs.Writing.{pointsFor}
 use Rattle.rules.specs.RoundTrip.{partsIn}
 use Rattle.laws.specs.Taken.{Taken}
@@ -31,13 +34,17 @@ use Rattle.theorems.proofs.Laid.{moment-same}
 use Rattle.theorems.proofs.Reoffered.{w, pds-octet, grid-for, points-for, marks-is}
 
 -- D is read off the message as off its PDS
-pub decimal-same : (s pds : List ℕ) (lent : Lent) → Taken s lent → octetsOf s (placesOf s .pds) ≡ pds → decimalIn s ≡ decimalAt pds 0
+pub decimal-same : (s pds : List ℕ) (lent : Lent) → Taken s lent → octetsOf s (placesOf s .pds) ≡ pds
+    → decimalIn s ≡ decimalAt pds 0
 unfolding decimalIn placesOf sectionAt
 decimal-same s pds lent t e =
     let h = reads-inside s lent t .pds in
-    ap (signed 2) (sym (ap (λ (o : List ℕ). run (bitsIn 8 o) 208 16) (sym e) ∙ run-part s 8 (number s 8 1 3) 208 16 (omega (arith, h))))
+    ap (signed 2)
+    (sym (ap (λ (o : List ℕ). run (bitsIn 8 o) 208 16) (sym e)
+    ∙ run-part s 8 (number s 8 1 3) 208 16 (omega (arith, h))))
 
-module _ (s : List ℕ) (lent : Lent) (values marks : List ℕ) (t : Taken s lent) (rv : pointsIn s ≤ length values) (rm : pointsIn s ≤ length marks) where
+module _ (s : List ℕ) (lent : Lent) (values marks : List ℕ) (t : Taken s lent) (rv : pointsIn s ≤ length values)
+    (rm : pointsIn s ≤ length marks) where
   abbrev r : Refusal
   r = readRefusal s lent values marks
 
@@ -45,7 +52,8 @@ module _ (s : List ℕ) (lent : Lent) (values marks : List ℕ) (t : Taken s len
   unfolding readRefusal readTable
   read-zero =
       let last = row 14 (ltb (length values) (pointsIn s) || ltb (length marks) (pointsIn s)) in
-      first-after (messageTable s lent) (last ∷ []) (rows s lent t) ∙ accepts (last ∷ []) (or-none _ _ (le-ltb _ _ rv) (le-ltb _ _ rm), tt)
+      first-after (messageTable s lent) (last ∷ []) (rows s lent t)
+      ∙ accepts (last ∷ []) (or-none _ _ (le-ltb _ _ rv) (le-ltb _ _ rm), tt)
 
   took : T (accepted r)
   took = taken-by r read-zero
@@ -56,16 +64,21 @@ module _ (s : List ℕ) (lent : Lent) (values marks : List ℕ) (t : Taken s len
 
   values-front : take (pointsFor (w s lent t)) (valuesAfter s lent values marks) ≡ valuesIn s lent
   unfolding valuesAfter valuesIn scattered
-  values-front = ap (λ (k : ℕ). take k (valuesAfter s lent values marks)) (points-for s lent t) ∙ filled-front r _ (pointsIn s) values took
+  values-front =
+      ap (λ (k : ℕ). take k (valuesAfter s lent values marks)) (points-for s lent t)
+      ∙ filled-front r _ (pointsIn s) values took
 
   marks-front : take (pointsFor (w s lent t)) (marksAfter s lent values marks) ≡ marksIn s lent
   unfolding marksAfter marksIn
-  marks-front = ap (λ (k : ℕ). take k (marksAfter s lent values marks)) (points-for s lent t) ∙ filled-front r (presentIn s lent) (pointsIn s) marks took
+  marks-front =
+      ap (λ (k : ℕ). take k (marksAfter s lent values marks)) (points-for s lent t)
+      ∙ filled-front r (presentIn s lent) (pointsIn s) marks took
 
   present-is : presentCount s lent ≡ count (markOf (w s lent t .marks)) 0 (pointsFor (w s lent t))
   unfolding presentCount
   present-is =
-      count-same (presentIn s lent) (markOf (w s lent t .marks)) (pointsIn s) (λ i l. sym (marks-is s lent t i l)) (pointsIn s) (omega arith)
+      count-same (presentIn s lent) (markOf (w s lent t .marks)) (pointsIn s) (λ i l. sym (marks-is s lent t i l))
+      (pointsIn s) (omega arith)
       ∙ ap (count (markOf (w s lent t .marks)) 0) (sym (points-for s lent t))
 
   tells : Tells s lent values marks (w s lent t)

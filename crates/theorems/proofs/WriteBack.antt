@@ -1,5 +1,5 @@
--- Demand 2: a message that is taken and canonical, read and written again, gives the same octets; from its end to its front, each section in the form
--- `written ++ what follows ≡ what stands there`.
+-- Demand 2: a message that is taken and canonical, read and written again, gives the same octets; from its end to its
+-- front, each section in the form `written ++ what follows ≡ what stands there`.
 use Prim.Native.Nat.{ℕ, _+_, _*_, _≤_}
 use mathlib.Core.Bool.{true, false, not}
 use mathlib.Core.Path.{_≡_, refl, sym, _∙_, ap}
@@ -12,7 +12,7 @@ use lib.Seq.{drop-length}
 use Rattle.bits.proofs.Cut.{cut}
 use Rattle.rules.specs.declared.{Part.Part}
 use Rattle.rules.specs.Numbers.{laid}
-use Rattle.rules.specs.Places.{endStart, pdsStart, hasGrid, hasBitmap, placesOf, markBad, editionBad, totalFaults}
+use Rattle.rules.specs.Places.{endStart, pdsStart, hasGrid, hasBitmap, placesOf, gribBad, editionBad, totalFaults}
 use Rattle.rules.specs.Bitmap.{Lent, markOf, valueOf, bmsOf}
 use Rattle.rules.specs.Points.{gathered}
 use Rattle.rules.specs.Values.{packingAt, lengthBad, bdsOf}
@@ -39,7 +39,8 @@ pub record Clean (s : List ℕ) (lent : Lent) : Type 0 where
   pub grid : GridClean (hasGrid s pdsStart) s (placesOf s .gds .start)
   pub bitmap : bitmapPaddingSet s (bitmapIn s) (placesOf s .bms .start) (pointsIn s) ≡ false
   pub scale : minusZero s (placesOf s .bds .start) 5 6 ≡ false
-  pub padding : dataPaddingSet s (placesOf s .bds .start) (placesOf s .bds .len) (presentCount s lent * packingIn s .bits) ≡ false
+  pub padding : dataPaddingSet s (placesOf s .bds .start) (placesOf s .bds .len)
+      (presentCount s lent * packingIn s .bits) ≡ false
 
 clean-of : (s : List ℕ) (lent : Lent) → T (canonical s lent) → Clean s lent
 unfolding canonical stains
@@ -56,7 +57,10 @@ clean-of s lent c =
 pub clean-canonical : (s : List ℕ) (lent : Lent) → Clean s lent → canonical s lent ≡ true
 unfolding canonical stains
 clean-canonical s lent c =
-    ap not (any-none (stains s lent) (c .grid .reserved, (c .grid .la1, (c .grid .lo1, (c .grid .la2, (c .grid .lo2, (c .bitmap, (c .scale, (c .padding, tt)))))))))
+    ap not (any-none (stains s lent) (
+      c .grid .reserved,
+      (c .grid .la1, (c .grid .lo1, (c .grid .la2, (c .grid .lo2, (c .bitmap, (c .scale, (c .padding, tt))))))),
+    ))
 
 module _ (s : List ℕ) (lent : Lent) (below : Below 256 s) (t : Taken s lent) (c : Clean s lent) where
   abbrev w : Parts
@@ -86,25 +90,33 @@ module _ (s : List ℕ) (lent : Lent) (below : Below 256 s) (t : Taken s lent) (
       let f = none-of (totalFaults s) (j .total) in
       let e : endStart s ≡ D .start + D .len = omega (arith, at .end) in
       let q : length s ≡ endStart s + 4 = omega (arith, at .end) in
-      here s (endStart s) ending [] below (omega (arith, at .end)) (is-eq _ _ (f .1 .0), tt) (sym (drop-length s) ∙ ap (λ (x : ℕ). drop x s) q) ∙ ap (λ (x : ℕ). drop x s) e
+      here s (endStart s) ending [] below (omega (arith, at .end)) (is-eq _ _ (f .1 .0), tt)
+      (sym (drop-length s) ∙ ap (λ (x : ℕ). drop x s) q)
+      ∙ ap (λ (x : ℕ). drop x s) e
 
   bds-here : bdsOf (packingIn s) (scaleIn s) (read.xs s lent t) ++ drop (D .start + D .len) s ≡ drop (D .start) s
   unfolding packingIn scaleIn dataIn packingAt lengthBad
   bds-here =
-      data-here s (D .start) (D .len) (presentCount s lent) below (omega (arith, at .end)) (at .bds .least refl) (at .bds .even refl) (sym (at .bds .says))
+      data-here s (D .start) (D .len) (presentCount s lent) below (omega (arith, at .end)) (at .bds .least refl)
+      (at .bds .even refl) (sym (at .bds .says))
       (is-eq _ _ (j .length)) (c .scale) (c .padding)
 
   bms-here : bmsOf (bitmapIn s) (markOf (w .marks)) (pointsIn s) ++ drop (M .start + M .len) s ≡ drop (M .start) s
   unfolding bitmapIn
   bms-here =
-      map-here (bitmapIn s) (hasBitmap s pdsStart) s lent M (pointsIn s) (markOf (w .marks)) below (omega (arith, at .at-bds, at .end)) (kind s) (at .bms)
-      (map-says s (hasBitmap s pdsStart) (M .start) .1) (j .bitmap) (c .bitmap) (read.marks-bits s lent t) (read.by-map s lent t)
+      map-here (bitmapIn s) (hasBitmap s pdsStart) s lent M (pointsIn s) (markOf (w .marks)) below
+      (omega (arith, at .at-bds, at .end)) (kind s) (at .bms)
+      (map-says s (hasBitmap s pdsStart) (M .start) .1) (j .bitmap) (c .bitmap) (read.marks-bits s lent t)
+      (read.by-map s lent t)
 
   gds-here : gdsFor (gridIn s) ++ drop (G .start + G .len) s ≡ drop (G .start) s
   unfolding gridIn
-  gds-here = found-here (hasGrid s pdsStart) s G below (omega (arith, at .at-bms, at .at-bds, at .end)) (at .gds) (j .gds) (c .grid)
+  gds-here =
+      found-here (hasGrid s pdsStart) s G below (omega (arith, at .at-bms, at .at-bds, at .end)) (at .gds) (j .gds)
+      (c .grid)
 
-  body-here : body (w .pds) (gdsFor (gridIn s)) (bmsOf (bitmapIn s) (markOf (w .marks)) (pointsIn s)) (bdsOf (packingIn s) (scaleIn s) (read.xs s lent t)) ≡ drop pdsStart s
+  body-here : body (w .pds) (gdsFor (gridIn s)) (bmsOf (bitmapIn s) (markOf (w .marks)) (pointsIn s))
+      (bdsOf (packingIn s) (scaleIn s) (read.xs s lent t)) ≡ drop pdsStart s
   body-here =
       let g = gdsFor (gridIn s) in
       let m = bmsOf (bitmapIn s) (markOf (w .marks)) (pointsIn s) in
@@ -112,25 +124,32 @@ module _ (s : List ℕ) (lent : Lent) (below : Below 256 s) (t : Taken s lent) (
       let at-d : d ++ laid ending [] ≡ drop (M .start + M .len) s = ap (λ (x : List ℕ). d ++ x) end-here ∙ bds-here ∙ ap (λ (x : ℕ). drop x s) (at .at-bds) in
       let at-m : m ++ (d ++ laid ending []) ≡ drop (G .start + G .len) s = ap (λ (x : List ℕ). m ++ x) at-d ∙ bms-here ∙ ap (λ (x : ℕ). drop x s) (at .at-bms) in
       let at-g : g ++ (m ++ (d ++ laid ending [])) ≡ drop (8 + P .len) s = ap (λ (x : List ℕ). g ++ x) at-m ∙ gds-here ∙ ap (λ (x : ℕ). drop x s) (at .at-gds) in
-      ap (λ (x : List ℕ). x ++ (g ++ (m ++ (d ++ laid ending [])))) (read.pds-is s lent t) ∙ ap (λ (x : List ℕ). take (P .len) (drop 8 s) ++ x) at-g ∙ cut s 8 (P .len)
+      ap (λ (x : List ℕ). x ++ (g ++ (m ++ (d ++ laid ending [])))) (read.pds-is s lent t)
+      ∙ ap (λ (x : List ℕ). take (P .len) (drop 8 s) ++ x) at-g ∙ cut s 8 (P .len)
 
   same-body : bodyFor w ≡ drop pdsStart s
   unfolding partsIn
   same-body =
-      ap (λ (k : ℕ). body (w .pds) (gdsFor (gridIn s)) (bmsOf (bitmapIn s) (markOf (w .marks)) k) (bdsOf (packingIn s) (scaleIn s) (gathered (markOf (w .marks)) (valueOf (w .values)) k))) (read.points-for s lent t)
-      ∙ ap (λ (x : List ℕ). body (w .pds) (gdsFor (gridIn s)) (bmsOf (bitmapIn s) (markOf (w .marks)) (pointsIn s)) (bdsOf (packingIn s) (scaleIn s) x)) (read.packed-is s lent t)
+      ap (λ (k : ℕ). body (w .pds) (gdsFor (gridIn s)) (bmsOf (bitmapIn s) (markOf (w .marks)) k)
+      (bdsOf (packingIn s) (scaleIn s) (gathered (markOf (w .marks)) (valueOf (w .values)) k)))
+      (read.points-for s lent t)
+      ∙ ap (λ (x : List ℕ). body (w .pds) (gdsFor (gridIn s)) (bmsOf (bitmapIn s) (markOf (w .marks)) (pointsIn s))
+      (bdsOf (packingIn s) (scaleIn s) x)) (read.packed-is s lent t)
       ∙ body-here
 
   same-message : message w ≡ s
-  unfolding markBad editionBad totalFaults
+  unfolding gribBad editionBad totalFaults
   same-message =
       let f = none-of (totalFaults s) (j .total) in
       let long : 8 ≤ length s = omega (arith, at .at-gds, at .at-bms, at .at-bds, at .end) in
       let l : 8 + length (drop 8 s) ≡ length s = omega (arith, length-drop 8 s) in
-      message-laid w ∙ ap (λ (x : List ℕ). laid (ahead (8 + length x)) x) same-body ∙ ap (λ (x : ℕ). laid (ahead x) (drop 8 s)) l
-      ∙ here s 0 (ahead (length s)) (drop 8 s) below long (is-eq _ _ (j .mark), (is-eq _ _ (f .0), (one s below 7 ∙ is-eq _ _ (j .edition), tt))) refl
+      message-laid w ∙ ap (λ (x : List ℕ). laid (ahead (8 + length x)) x) same-body
+      ∙ ap (λ (x : ℕ). laid (ahead x) (drop 8 s)) l
+      ∙ here s 0 (ahead (length s)) (drop 8 s) below long
+      (is-eq _ _ (j .mark), (is-eq _ _ (f .0), (one s below 7 ∙ is-eq _ _ (j .edition), tt))) refl
 
-pub comes-back : (s : List ℕ) (lent : Lent) → Below 256 s → Taken s lent → T (canonical s lent) → message (partsIn s lent) ≡ s
+pub comes-back : (s : List ℕ) (lent : Lent) → Below 256 s → Taken s lent → T (canonical s lent)
+    → message (partsIn s lent) ≡ s
 comes-back s lent below t c = same-message s lent below t (clean-of s lent c)
 
 pub write-after-read : WriteAfterRead

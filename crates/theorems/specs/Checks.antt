@@ -1,4 +1,5 @@
--- Document 00, demand 3: when the check says yes, and that what the packer writes passes it; document 01, "Packing and checking": R, X and E.
+-- Document 00, demand 3: when the check says yes, and that what the packer writes passes it; document 01, "Packing and
+-- checking": R, X and E.
 use Prim.Native.Nat.{ℕ, _*_, _^_, _<_, _≤_}
 use mathlib.Core.Path.{_≡_}
 use mathlib.Core.Logic.{_↔_}
@@ -16,7 +17,7 @@ use Rattle.rules.specs.Values.{packingFaults, bOf, sizeOf, unit, wholeOf}
 use Rattle.rules.specs.Reading.{valuesIn, scaleIn}
 use Rattle.rules.specs.Writing.{pdsFaults, writeRefusal}
 use Rattle.rules.specs.Checking.{Source, numberOf, presentOf, checkOf}
-use Rattle.rules.specs.Packing.{spellingOf, reference, above, exponent, packed, packRefusal, packOf, packedAfter}
+use Rattle.rules.specs.Packing.{spellingOf, reference, above, exponent, packedParts, packRefusal, packOf, packedAfter}
 use Rattle.laws.specs.Taken.{Taken}
 use Rattle.laws.specs.Sources.{AtPresent, SomePresent, WellFormed, Agrees, InRange, Fits}
 use Rattle.theorems.specs.Returns.{GridFits, NumberFits, handed}
@@ -41,18 +42,23 @@ CheckExactly = (s : List ℕ) (lent : Lent) (f : Source) → (checkOf s lent f �
 -- "Whenever our packer isn't refused, the message it writes passes that check against its own source and stored bitmap"
 abbrev pub PackedPasses : Type 0
 PackedPasses =
-    (pds : List ℕ) (form : Form) (lent : Lent) (f : Source) (out : List ℕ) → GridFits (form .grid) → NumberFits (form .bitmap)
-    → T (accepted (packRefusal pds form lent f out)) → checkOf (handed (packOf pds form lent f out) (packedAfter pds form lent f out)) lent f ≡ refusal 0
+    (pds : List ℕ) (form : Form) (lent : Lent) (f : Source) (out : List ℕ) → GridFits (form .grid)
+    → NumberFits (form .bitmap)
+    → T (accepted (packRefusal pds form lent f out))
+    → checkOf (handed (packOf pds form lent f out) (packedAfter pds form lent f out)) lent f ≡ refusal 0
 
--- "Demand 3 alone would allow a packer that always refuses": it accepts exactly when the source is well formed, D agrees, a step fits, and the writer accepts what it would write
+-- "Demand 3 alone would allow a packer that always refuses": it accepts exactly when the source is well formed, D
+-- agrees, a step fits, and the writer accepts what it would write
 pub record Packable (pds : List ℕ) (form : Form) (lent : Lent) (f : Source) (out : List ℕ) : Type 0 where
   pub source : WellFormed f
   pub decimal : decimalAt pds 0 .value ≡ f .d
   pub spread : form .packing .bits ≡ 0 → AtPresent f (λ i. above f i < flatSpread)
-  pub written : T (accepted (writeRefusal (packed pds form lent f) out))
+  pub written : T (accepted (writeRefusal (packedParts pds form lent f) out))
 
 abbrev pub PackExactly : Type 0
-PackExactly = (pds : List ℕ) (form : Form) (lent : Lent) (f : Source) (out : List ℕ) → T (accepted (packRefusal pds form lent f out)) ↔ Packable pds form lent f out
+PackExactly =
+    (pds : List ℕ) (form : Form) (lent : Lent) (f : Source) (out : List ℕ)
+    → T (accepted (packRefusal pds form lent f out)) ↔ Packable pds form lent f out
 
 -- "R is the least present V": each present V is R and r = V − R more, and one of them is R; "No present point: R = 0"
 pub record Referred (f : Source) : Type 0 where
@@ -76,13 +82,18 @@ SpelledExactly = (z : ℤ) → natAbs z ≤ sourceMost → Spells z (spellingOf 
 
 -- "E is the least of 0 to 24 for which all X are below 2^N"; "No present point: .. E = 0"
 abbrev pub LeastStep : Type 0
-LeastStep = (f : Source) (bits e : ℕ) → e ≤ stepMost → (exponent f bits ≡ e) ↔ (Fits f bits e × ((k : ℕ) → k < e → Fits f bits k → ⊥))
+LeastStep =
+    (f : Source) (bits e : ℕ) → e ≤ stepMost → (exponent f bits ≡ e)
+    ↔ (Fits f bits e × ((k : ℕ) → k < e → Fits f bits k → ⊥))
 
 -- no E from 0 to 24 fits exactly when N = 0 and "the spread is 8,388,608 or more"
 abbrev pub NoStepFits : Type 0
-NoStepFits = (f : Source) (bits : ℕ) → WellFormed f → (stepMost < exponent f bits) ↔ ((bits ≡ 0) × SomePresent f (λ i. flatSpread ≤ above f i))
+NoStepFits =
+    (f : Source) (bits : ℕ) → WellFormed f → (stepMost < exponent f bits)
+    ↔ ((bits ≡ 0) × SomePresent f (λ i. flatSpread ≤ above f i))
 
--- "For N = 0, 19 is given exactly when the spread is 8,388,608 or more", where the packer's rows above 19 pass; for another N never
+-- "For N = 0, 19 is given exactly when the spread is 8,388,608 or more", where the packer's rows above 19 pass; for
+-- another N never
 pub record NothingFits (pds : List ℕ) (form : Form) (f : Source) : Type 0 where
   pub pds-passes : anyOf (pdsFaults pds) ≡ false
   pub source : WellFormed f
@@ -92,4 +103,6 @@ pub record NothingFits (pds : List ℕ) (form : Form) (f : Source) : Type 0 wher
   pub spread : SomePresent f (λ i. flatSpread ≤ above f i)
 
 abbrev pub NoStepReply : Type 0
-NoStepReply = (pds : List ℕ) (form : Form) (lent : Lent) (f : Source) (out : List ℕ) → (packRefusal pds form lent f out ≡ refusal 19) ↔ NothingFits pds form f
+NoStepReply =
+    (pds : List ℕ) (form : Form) (lent : Lent) (f : Source) (out : List ℕ)
+    → (packRefusal pds form lent f out ≡ refusal 19) ↔ NothingFits pds form f

@@ -1,4 +1,5 @@
--- What is proved of the definitions of `rules`: the demands of document 00 in turn, each statement with the sentence it renders.
+-- What is proved of the definitions of `rules`: the demands of document 00 in turn, each statement with the sentence it
+-- renders.
 pub mod Replies
 pub mod Reads
 pub mod Returns

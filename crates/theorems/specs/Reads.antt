@@ -1,5 +1,5 @@
--- Document 00, demand 2: "Reading gives exactly what GRIB Edition 1 defines: sections that tile the message, packed integers, present points,
--- scales, and the row and column of each grid point".
+-- Document 00, demand 2: "Reading gives exactly what GRIB Edition 1 defines: sections that tile the message, packed
+-- integers, present points, scales, and the row and column of each grid point".
 use Prim.Native.Nat.{ℕ, _+_, _-_, _*_, _^_, _<_, _≤_}
 use mathlib.Core.Path.{_≡_}
 use mathlib.Core.Logic.{_↔_, _⊎_}
@@ -12,18 +12,21 @@ use lib.ListN.{length, getD, take, drop}
 use lib.Ieee.{binary64, ofBits}
 use lib.Ieee.Exact.{HasValue}
 use Rattle.bits.specs.Bits.{bitsIn, run, count}
-use Rattle.rules.specs.declared.{Header.Header, Part.Part, Bitmap.the-variants.Without, Shape.Shape, Grid.Grid, GridPoint.GridPoint, Spot.Spot, Charted.the-variants.On, Pointed.the-variants.At}
+use Rattle.rules.specs.declared.{Header.Header, Part.Part, Bitmap.the-variants.Without, Shape.Shape, Grid.Grid}
+use Rattle.rules.specs.declared.{GridPoint.GridPoint, Spot.Spot, Charted.the-variants.On, Pointed.the-variants.At}
 use Rattle.rules.specs.Bounds.{bdsHead}
 use Rattle.rules.specs.Numbers.{joined, decimalAt}
 use Rattle.rules.specs.Table.{refusal, accepted}
 use Rattle.rules.specs.Places.{octetsOf, noPart, after, pdsStart, endStart, hasGrid, hasBitmap, placesOf, sectionsOf}
 use Rattle.rules.specs.Time.{momentAt}
 use Rattle.rules.specs.Grid.{theGrid}
-use Rattle.rules.specs.Chart.{west, north, byColumn, spotOf, pointsOn, rowsOn, rowLong, spotOn, pointOn, charted, pointed}
+use Rattle.rules.specs.Chart.{west, north, byColumn, spotOf, pointsOn, rowsOn, rowLong, spotOn, pointOn, charted}
+use Rattle.rules.specs.Chart.{pointed}
 use Rattle.rules.specs.Bitmap.{Lent, markOf, marksLong, valueOf}
 use Rattle.rules.specs.Points.{numbered, absent}
 use Rattle.rules.specs.Values.{sOf, bOf, sizeOf, unit}
-use Rattle.rules.specs.Reading.{ownRefusal, gridOf, bitmapIn, pointsIn, presentIn, presentCount, packingIn, dataIn, headerOf, readRefusal, readOf, valuesAfter, marksAfter, sectionOf, numberingOf}
+use Rattle.rules.specs.Reading.{ownRefusal, gridOf, bitmapIn, pointsIn, presentIn, presentCount, packingIn, dataIn}
+use Rattle.rules.specs.Reading.{headerOf, readRefusal, readOf, valuesAfter, marksAfter, sectionOf, numberingOf}
 use Rattle.rules.specs.Writing.{Parts, gridFor, pointsFor}
 use Rattle.rules.specs.RoundTrip.{partsIn}
 use Rattle.rules.specs.Display.{shownReference, shownStep}
@@ -33,7 +36,8 @@ use Rattle.laws.specs.Taken.{Taken}
 abbrev pub SectionsTile : Type 0
 SectionsTile = (s : List ℕ) (lent : Lent) → Taken s lent → joined (map (octetsOf s) (sectionsOf s)) ≡ s
 
--- and so do the parts that "asking for section 0 to 5" hands back; "an absent section, another number .. gives the empty part at its start"
+-- and so do the parts that "asking for section 0 to 5" hands back; "an absent section, another number .. gives the
+-- empty part at its start"
 pub record HandedBack (s : List ℕ) (lent : Lent) : Type 0 where
   pub tile : joined (map (λ k. octetsOf s (sectionOf s lent k)) (0 ∷ 1 ∷ 2 ∷ 3 ∷ 4 ∷ 5 ∷ [])) ≡ s
   pub gds : hasGrid s pdsStart ≡ false → sectionOf s lent 2 ≡ noPart
@@ -47,7 +51,8 @@ SectionsHanded = (s : List ℕ) (lent : Lent) → Taken s lent → HandedBack s 
 abbrev pub RefusedHasNone : Type 0
 RefusedHasNone = (s : List ℕ) (lent : Lent) (k : ℕ) → accepted (ownRefusal s lent) ≡ false → sectionOf s lent k ≡ noPart
 
--- one after another: each part starts where the one before it ends, the first at one place, and the last ends at the other
+-- one after another: each part starts where the one before it ends, the first at one place, and the last ends at the
+-- other
 abbrev pub Adjoining : ℕ → List Part → ℕ → Type 0
 Adjoining from [] to = from ≡ to
 Adjoining from (p ∷ parts) to = (p .start ≡ from) × Adjoining (after p) parts to
@@ -57,8 +62,9 @@ abbrev pub withOctets : List Part → List Part
 withOctets [] = []
 withOctets (p ∷ parts) = cond (eqb (p .len) 0) (withOctets parts) (p ∷ withOctets parts)
 
--- how the sections tile a message: the PDS starts at 8, each section where the one before it ends, and the end section, where the BDS ends, 4 octets before the message's end.
--- An absent section has no octets, and those that have some, as "asking for section 0 to 5" hands them back, lie one after another from the message's first octet to its last
+-- how the sections tile a message: the PDS starts at 8, each section where the one before it ends, and the end section,
+-- where the BDS ends, 4 octets before the message's end. An absent section has no octets, and those that have some, as
+-- "asking for section 0 to 5" hands them back, lie one after another from the message's first octet to its last
 pub record Adjoined (s : List ℕ) (lent : Lent) : Type 0 where
   pub pds : placesOf s .pds .start ≡ 8
   pub gds : placesOf s .gds .start ≡ after (placesOf s .pds)
@@ -74,8 +80,8 @@ pub record Adjoined (s : List ℕ) (lent : Lent) : Type 0 where
 abbrev pub SectionsAdjoin : Type 0
 SectionsAdjoin = (s : List ℕ) (lent : Lent) → Taken s lent → Adjoined s lent
 
--- of a point, where reading left these lists: "A present grid point's data number is the count of ones before it in the bitmap", its value stands among the data by that number;
--- "An absent point has none", and "0 and 0 at absent points"
+-- of a point, where reading left these lists: "A present grid point's data number is the count of ones before it in the
+-- bitmap", its value stands among the data by that number; "An absent point has none", and "0 and 0 at absent points"
 pub record LeftAt (s : List ℕ) (lent : Lent) (values marks : List ℕ) (i : ℕ) : Type 0 where
   pub bit : presentIn s lent i < 2
   pub mark : markOf marks i ≡ presentIn s lent i
@@ -88,27 +94,35 @@ abbrev pub ReadAt : List ℕ → Lent → List ℕ → List ℕ → ℕ → Type
 ReadAt s lent values marks i = LeftAt s lent (valuesAfter s lent values marks) (marksAfter s lent values marks) i
 
 abbrev pub ValueAtPoint : Type 0
-ValueAtPoint = (s : List ℕ) (lent : Lent) (values marks : List ℕ) → T (accepted (readRefusal s lent values marks)) → (i : ℕ) → i < pointsIn s → ReadAt s lent values marks i
+ValueAtPoint =
+    (s : List ℕ) (lent : Lent) (values marks : List ℕ) → T (accepted (readRefusal s lent values marks)) → (i : ℕ)
+    → i < pointsIn s → ReadAt s lent values marks i
 
--- "Values are taken one after another from the place reached": the k-th of the m values stands at its bit place, inside the data section
+-- "Values are taken one after another from the place reached": the k-th of the m values stands at its bit place, inside
+-- the data section
 pub record StandsAt (s : List ℕ) (lent : Lent) (k bits : ℕ) : Type 0 where
   pub inside : k * bits + bits ≤ 8 * (placesOf s .bds .len - bdsHead)
   pub is : getD (dataIn s lent) k 0 ≡ run (bitsIn 8 s) ((placesOf s .bds .start + bdsHead) * 8 + k * bits) bits
 
 abbrev pub PackedSimply : Type 0
-PackedSimply = (s : List ℕ) (lent : Lent) → Taken s lent → (k : ℕ) → k < presentCount s lent → StandsAt s lent k (packingIn s .bits)
+PackedSimply =
+    (s : List ℕ) (lent : Lent) → Taken s lent → (k : ℕ) → k < presentCount s lent
+    → StandsAt s lent k (packingIn s .bits)
 
 -- "or its own number where there is no bitmap"
 abbrev pub OwnNumber : Type 0
-OwnNumber = (s : List ℕ) (lent : Lent) → Taken s lent → bitmapIn s ≡ Without → (i : ℕ) → i < pointsIn s → numberingOf s lent i ≡ numbered i
+OwnNumber =
+    (s : List ℕ) (lent : Lent) → Taken s lent → bitmapIn s ≡ Without → (i : ℕ) → i < pointsIn s → numberingOf s lent i
+    ≡ numbered i
 
 -- "elements after n stay"
 abbrev pub ReadKeeps : Type 0
 ReadKeeps = (s : List ℕ) (lent : Lent) (values marks : List ℕ) → T (accepted (readRefusal s lent values marks))
-    → (drop (pointsIn s) (valuesAfter s lent values marks) ≡ drop (pointsIn s) values) × (drop (marksLong (pointsIn s)) (marksAfter s lent values marks) ≡ drop (marksLong (pointsIn s)) marks)
+    → (drop (pointsIn s) (valuesAfter s lent values marks) ≡ drop (pointsIn s) values)
+    × (drop (marksLong (pointsIn s)) (marksAfter s lent values marks) ≡ drop (marksLong (pointsIn s)) marks)
 
--- "sections .., packed integers, present points, scales": what is handed out of a message, a header and two lists as reading left them, is the parts w, field by field, and the
--- places of the message's sections
+-- "sections .., packed integers, present points, scales": what is handed out of a message, a header and two lists as
+-- reading left them, is the parts w, field by field, and the places of the message's sections
 pub record Told (s : List ℕ) (h : Header) (values marks : List ℕ) (w : Parts) : Type 0 where
   pub refusal : h .refusal ≡ refusal 0
   pub places : h .places ≡ placesOf s
@@ -125,37 +139,45 @@ pub record Told (s : List ℕ) (h : Header) (values marks : List ℕ) (w : Parts
   pub which : take (marksLong (pointsFor w)) marks ≡ w .marks
 
 abbrev pub Tells : List ℕ → Lent → List ℕ → List ℕ → Parts → Type 0
-Tells s lent values marks w = Told s (readOf s lent values marks) (valuesAfter s lent values marks) (marksAfter s lent values marks) w
+Tells s lent values marks w =
+    Told s (readOf s lent values marks) (valuesAfter s lent values marks) (marksAfter s lent values marks) w
 
 -- of any taken message, with room for its points: the parts by which the round trips speak of it
 abbrev pub ReadTells : Type 0
-ReadTells = (s : List ℕ) (lent : Lent) (values marks : List ℕ) → Taken s lent → pointsIn s ≤ length values → marksLong (pointsIn s) ≤ length marks → Tells s lent values marks (partsIn s lent)
+ReadTells =
+    (s : List ℕ) (lent : Lent) (values marks : List ℕ) → Taken s lent → pointsIn s ≤ length values
+    → marksLong (pointsIn s) ≤ length marks → Tells s lent values marks (partsIn s lent)
 
 -- "One that invents the present count: it equals the bitmap's ones"
 abbrev pub PresentCounted : Type 0
-PresentCounted = (s : List ℕ) (lent : Lent) → Taken s lent → headerOf s lent .present ≡ count (presentIn s lent) 0 (pointsIn s)
+PresentCounted =
+    (s : List ℕ) (lent : Lent) → Taken s lent → headerOf s lent .present ≡ count (presentIn s lent) 0 (pointsIn s)
 
--- "The chart's row 0 is north and column 0 is west, by these flags": point i of scanned row j, counted in the order of bit 3, is drawn in row j, or from the other end where
--- bit 2 says that rows run north, and in column i, or from the other end where bit 1 says that columns run west
+-- "The chart's row 0 is north and column 0 is west, by these flags": point i of scanned row j, counted in the order of
+-- bit 3, is drawn in row j, or from the other end where bit 2 says that rows run north, and in column i, or from the
+-- other end where bit 1 says that columns run west
 abbrev pub ChartDrawn : Type 0
 ChartDrawn =
     (ni nj scan j i : ℕ) → j < nj → i < ni
     → spotOf ni nj scan (cond (byColumn scan) (i * nj + j) (j * ni + i)) ≡ record { row = cond (north scan) (nj - 1 - j) j; column = cond (west scan) (ni - 1 - i) i }
 
--- "The chart's row 0 is north", by the latitudes: La1 is the first scanned row's and La2 the last one's. Point i of scanned row j, and the chart's row in which all of them are drawn
+-- "The chart's row 0 is north", by the latitudes: La1 is the first scanned row's and La2 the last one's. Point i of
+-- scanned row j, and the chart's row in which all of them are drawn
 abbrev pub scanned : Shape → ℕ → ℕ → ℕ
 scanned g j i = cond (byColumn (g .scan)) (i * g .nj + j) (j * g .ni + i)
 
 abbrev pub DrawnIn : Shape → ℕ → ℕ → Type 0
 DrawnIn g j r = (i : ℕ) → i < g .ni → spotOn g (scanned g j i) .row ≡ r
 
--- of a grid of more than one row: where La1 is above La2 the first scanned row is the chart's row 0 and the last one its last, where La2 is above La1 they change places, and
--- there is no third case
+-- of a grid of more than one row: where La1 is above La2 the first scanned row is the chart's row 0 and the last one
+-- its last, where La2 is above La1 they change places, and there is no third case
 abbrev pub NorthOnTop : Grid → Type 0
 NorthOnTop g =
     let last = g .shape .nj - 1 in
-    ((ltZ (g .geometry .la2 .value) (g .geometry .la1 .value) ≡ true) × DrawnIn (g .shape) 0 0 × DrawnIn (g .shape) last last)
-    ⊎ ((ltZ (g .geometry .la1 .value) (g .geometry .la2 .value) ≡ true) × DrawnIn (g .shape) 0 last × DrawnIn (g .shape) last 0)
+    ((ltZ (g .geometry .la2 .value) (g .geometry .la1 .value) ≡ true) × DrawnIn (g .shape) 0 0
+    × DrawnIn (g .shape) last last)
+    ⊎ ((ltZ (g .geometry .la1 .value) (g .geometry .la2 .value) ≡ true) × DrawnIn (g .shape) 0 last
+    × DrawnIn (g .shape) last 0)
 
 -- of every message that is taken, by its GDS or by the catalogue
 abbrev pub TopIsNorth : Type 0
@@ -167,13 +189,15 @@ PlacePoint =
     (g : Shape)
     → ((k : ℕ) → k < pointsOn g
     → (spotOn g k .row < rowsOn g) × (spotOn g k .column < rowLong g (spotOn g k .row)) × (pointOn g (spotOn g k) ≡ k))
-    × ((c : Spot) → c .row < rowsOn g → c .column < rowLong g (c .row) → (pointOn g c < pointsOn g) × (spotOn g (pointOn g c) ≡ c))
+    × ((c : Spot) → c .row < rowsOn g → c .column < rowLong g (c .row) → (pointOn g c < pointsOn g)
+    × (spotOn g (pointOn g c) ≡ c))
 
 -- and so as they are answered
 abbrev pub PlacePointAnswers : Type 0
 PlacePointAnswers = (g : Shape) (k : GridPoint) (c : Spot) → (charted g k ≡ On c) ↔ (pointed g c ≡ At k)
 
--- "IEEE doubles of exactly those values": R in size sizeOf r / 16^70 with its sign, and 2^E. "R with B = 0 gives all bits zero"
+-- "IEEE doubles of exactly those values": R in size sizeOf r / 16^70 with its sign, and 2^E. "R with B = 0 gives all
+-- bits zero"
 abbrev pub ShownExactly : Type 0
 ShownExactly =
     ((r : ℕ) → r < 2 ^ 32 → 0 < bOf r → HasValue (shownReference r) (eqb (sOf r) 1) (sizeOf r) unit)

@@ -1,4 +1,5 @@
--- Document 00, demand 1, and document 01, "How tight the contracts are": every input gets one definite reply, and a refusal changes nothing.
+-- Document 00, demand 1, and document 01, "How tight the contracts are": every input gets one definite reply, and a
+-- refusal changes nothing.
 use Prim.Native.Nat.{ℕ, _<_}
 use mathlib.Core.Path.{_≡_}
 use mathlib.Core.Logic.{_⊎_}
@@ -11,11 +12,12 @@ use Rattle.rules.specs.declared.{Refusal.Refusal, Form.Form}
 use Rattle.rules.specs.Table.{Row, given, refusal, accepted, first, filled}
 use Rattle.rules.specs.Bitmap.{Lent, noBitmap}
 use Rattle.rules.specs.Points.{dataNumber, outside}
-use Rattle.rules.specs.Reading.{messageTable, ownRefusal, foundIn, refusedBy, headerOf, readTable, readRefusal, readOf, scaleIn, inForceIn, bitmapOf, presentIn, pointsIn, numberingOf}
+use Rattle.rules.specs.Reading.{messageTable, ownRefusal, foundIn, refusedBy, headerOf, readTable, readRefusal, readOf}
+use Rattle.rules.specs.Reading.{scaleIn, inForceIn, bitmapOf, presentIn, pointsIn, numberingOf}
 use Rattle.rules.specs.Display.{displayTable, displayOf, shownReference, shownStep}
 use Rattle.rules.specs.Writing.{Parts, message, writeTable, writeRefusal, writeOf, lengthOf}
 use Rattle.rules.specs.Checking.{Source, checkTable}
-use Rattle.rules.specs.Packing.{packed, packTable, packRefusal, packOf}
+use Rattle.rules.specs.Packing.{packedParts, packTable, packRefusal, packOf}
 use Rattle.laws.specs.Tables.{Clear}
 
 -- r is the reply of the first row that applies
@@ -42,35 +44,46 @@ Among n (x ∷ xs) = (n ≡ x) ⊎ Among n xs
 abbrev pub ReplyAmong : Type 0
 ReplyAmong = (rows : List Row) → Among (first rows .number) (0 ∷ numbers rows)
 
--- the reader's rows are 1 to 12; "Checker: 1 to 12, then 18, 15, 16, 17"; "The writer never gives 1 to 4, 8 or 12"; "Packer: 5, 18, 15 .., 11, 19, then the rest of the writer's"
+-- the reader's rows are 1 to 12; "Checker: 1 to 12, then 18, 15, 16, 17"; "The writer never gives 1 to 4, 8 or 12";
+-- "Packer: 5, 18, 15 .., 11, 19, then the rest of the writer's"
 pub record RowNumbers : Type 0 where
-  pub reader : (s : List ℕ) (lent : Lent) → numbers (messageTable s lent) ≡ 1 ∷ 2 ∷ 3 ∷ 4 ∷ 5 ∷ 6 ∷ 7 ∷ 8 ∷ 9 ∷ 10 ∷ 11 ∷ 12 ∷ []
-  pub lists : (s : List ℕ) (lent : Lent) (values marks : List ℕ) → numbers (readTable s lent values marks) ≡ numbers (messageTable s lent) ++ (14 ∷ [])
+  pub reader : (s : List ℕ) (lent : Lent)
+      → numbers (messageTable s lent) ≡ 1 ∷ 2 ∷ 3 ∷ 4 ∷ 5 ∷ 6 ∷ 7 ∷ 8 ∷ 9 ∷ 10 ∷ 11 ∷ 12 ∷ []
+  pub lists : (s : List ℕ) (lent : Lent) (values marks : List ℕ)
+      → numbers (readTable s lent values marks) ≡ numbers (messageTable s lent) ++ (14 ∷ [])
   pub display : (s : List ℕ) (lent : Lent) → numbers (displayTable s lent) ≡ numbers (messageTable s lent) ++ (16 ∷ [])
-  pub checker : (s : List ℕ) (lent : Lent) (f : Source) → numbers (checkTable s lent f) ≡ numbers (messageTable s lent) ++ (18 ∷ 15 ∷ 16 ∷ 17 ∷ [])
+  pub checker : (s : List ℕ) (lent : Lent) (f : Source)
+      → numbers (checkTable s lent f) ≡ numbers (messageTable s lent) ++ (18 ∷ 15 ∷ 16 ∷ 17 ∷ [])
   pub writer : (w : Parts) (out : List ℕ) → numbers (writeTable w out) ≡ 5 ∷ 6 ∷ 7 ∷ 9 ∷ 10 ∷ 11 ∷ 13 ∷ 14 ∷ []
-  pub packer : (pds : List ℕ) (form : Form) (lent : Lent) (f : Source) (out : List ℕ) → numbers (packTable pds form lent f out) ≡ 5 ∷ 18 ∷ 15 ∷ 11 ∷ 19 ∷ numbers (writeTable (packed pds form lent f) out)
+  pub packer : (pds : List ℕ) (form : Form) (lent : Lent) (f : Source) (out : List ℕ)
+      → numbers (packTable pds form lent f out) ≡ 5 ∷ 18 ∷ 15 ∷ 11 ∷ 19
+      ∷ numbers (writeTable (packedParts pds form lent f) out)
 
--- the packer's own 5 and 11 have passed where "the rest of the writer's" are asked, so that the writer's never apply: the packer replies by a table in which each number stands once
+-- the packer's own 5 and 11 have passed where "the rest of the writer's" are asked, so that the writer's never apply:
+-- the packer replies by a table in which each number stands once
 abbrev pub without : ℕ → List Row → List Row
 without n [] = []
 without n (given r test ∷ rows) = cond (eqb (r .number) n) (without n rows) (given r test ∷ without n rows)
 
 abbrev pub onceTable : List ℕ → Form → Lent → Source → List ℕ → List Row
-onceTable pds form lent f out = take 5 (packTable pds form lent f out) ++ without 5 (without 11 (writeTable (packed pds form lent f) out))
+onceTable pds form lent f out =
+    take 5 (packTable pds form lent f out) ++ without 5 (without 11 (writeTable (packedParts pds form lent f) out))
 
 abbrev pub PackerOnce : Type 0
 PackerOnce =
     (pds : List ℕ) (form : Form) (lent : Lent) (f : Source) (out : List ℕ)
-    → (packRefusal pds form lent f out ≡ first (onceTable pds form lent f out)) × (numbers (onceTable pds form lent f out) ≡ 5 ∷ 18 ∷ 15 ∷ 11 ∷ 19 ∷ 6 ∷ 7 ∷ 9 ∷ 10 ∷ 13 ∷ 14 ∷ [])
+    → (packRefusal pds form lent f out ≡ first (onceTable pds form lent f out))
+    × (numbers (onceTable pds form lent f out) ≡ 5 ∷ 18 ∷ 15 ∷ 11 ∷ 19 ∷ 6 ∷ 7 ∷ 9 ∷ 10 ∷ 13 ∷ 14 ∷ [])
 
--- "A message is either taken whole or refused with a number": what is answered is all that was found, with reply 0, or with another reply zeros
+-- "A message is either taken whole or refused with a number": what is answered is all that was found, with reply 0, or
+-- with another reply zeros
 abbrev pub Whole : {A : Type 0} → Refusal → A → A → A → Type 0
 Whole r found zeros answer = ((r ≡ refusal 0) × (answer ≡ found)) ⊎ ((0 < r .number) × (answer ≡ zeros))
 
 -- "Every other reply returns its number with all counts and fields zero", whatever was asked for
 pub record TakenOrRefused : Type 0 where
-  pub header : (s : List ℕ) (lent : Lent) → Whole (ownRefusal s lent) (foundIn s lent) (refusedBy (ownRefusal s lent)) (headerOf s lent)
+  pub header : (s : List ℕ) (lent : Lent)
+      → Whole (ownRefusal s lent) (foundIn s lent) (refusedBy (ownRefusal s lent)) (headerOf s lent)
   pub read : (s : List ℕ) (lent : Lent) (values marks : List ℕ)
       → let r = readRefusal s lent values marks in
       Whole r (foundIn s lent) (refusedBy r) (readOf s lent values marks)
@@ -78,17 +91,22 @@ pub record TakenOrRefused : Type 0 where
       → let r = first (displayTable s lent) in
       Whole r (record { refusal = r; reference = shownReference (scaleIn s .r); step = shownStep (scaleIn s .e .value) }) (record { refusal = r; reference = ofBits binary64 0; step = ofBits binary64 0 }) (displayOf s lent)
   pub bitmap : (s : List ℕ) (lent : Lent) → Whole (ownRefusal s lent) (inForceIn s) noBitmap (bitmapOf s lent)
-  pub number : (s : List ℕ) (lent : Lent) (i : ℕ) → Whole (ownRefusal s lent) (dataNumber (presentIn s lent) (pointsIn s) i) outside (numberingOf s lent i)
-  pub write : (w : Parts) (out : List ℕ) → (writeOf w out .refusal ≡ writeRefusal w out) × Whole (writeRefusal w out) (length (message w)) 0 (writeOf w out .len)
+  pub number : (s : List ℕ) (lent : Lent) (i : ℕ)
+      → Whole (ownRefusal s lent) (dataNumber (presentIn s lent) (pointsIn s) i) outside (numberingOf s lent i)
+  pub write : (w : Parts) (out : List ℕ)
+      → (writeOf w out .refusal ≡ writeRefusal w out)
+      × Whole (writeRefusal w out) (length (message w)) 0 (writeOf w out .len)
   pub pack : (pds : List ℕ) (form : Form) (lent : Lent) (f : Source) (out : List ℕ)
       → let r = packRefusal pds form lent f out in
-      (packOf pds form lent f out .refusal ≡ r) × Whole r (length (message (packed pds form lent f))) 0 (packOf pds form lent f out .len)
+      (packOf pds form lent f out .refusal ≡ r)
+      × Whole r (length (message (packedParts pds form lent f))) 0 (packOf pds form lent f out .len)
 
 -- "and no lent element changes", whatever would have been written
 abbrev pub RefusalKeeps : Type 0
 RefusalKeeps = (r : Refusal) (front lent : List ℕ) → accepted r ≡ false → filled r front lent ≡ lent
 
--- "elements after n stay", "Writing fills the message's octets; later ones stay": of an accepted call the front of a lent list is what was to be written, and the rest is as it was
+-- "elements after n stay", "Writing fills the message's octets; later ones stay": of an accepted call the front of a
+-- lent list is what was to be written, and the rest is as it was
 pub record Filled (r : Refusal) (front lent : List ℕ) : Type 0 where
   pub written : take (length front) (filled r front lent) ≡ front
   pub kept : drop (length front) (filled r front lent) ≡ drop (length front) lent

@@ -1,17 +1,20 @@
--- The contracts of `bitreader` are tight. A reader is its two fields, and the slice that it holds is the very reference given.
+-- The contracts of `bitreader` are tight. A reader is its two fields, and the slice that it holds is the very reference
+-- given.
 use mathlib.Core.Path.{refl, sym, _∙_}
 use Rattle.bitreader.proofs as contracts
 use Rattle.tight.specs.Tight.{Tight}
 use Rattle.tight.proofs.Laws.{by-clause, by-reply}
 
 pub new : Tight contracts.new.ended λ M. contracts.new.clauses
-new k g h x y ws vs = by-clause k λ p q. ((λ i. record { «data» = (p .0 ∙ sym (q .0)) i; at = (p .1 ∙ sym (q .1)) i }), refl)
+new k g h x y ws vs =
+    by-clause k λ p q. ((λ i. record { «data» = (p .0 ∙ sym (q .0)) i; at = (p .1 ∙ sym (q .1)) i }), refl)
 
 pub next : Tight contracts.next.ended λ M. contracts.next.clauses
 next k g h x y ws vs = by-reply k refl
 
 pub moved : Tight contracts.moved.ended λ M. contracts.moved.clauses
-moved k g h x y ws vs = by-clause k λ p q. ((λ i. record { «data» = (p .0 ∙ sym (q .0)) i; at = (p .1 ∙ sym (q .1)) i }), refl)
+moved k g h x y ws vs =
+    by-clause k λ p q. ((λ i. record { «data» = (p .0 ∙ sym (q .0)) i; at = (p .1 ∙ sym (q .1)) i }), refl)
 
 pub take : Tight contracts.take.ended λ M. contracts.take.clauses
 take k g h x y ws vs = by-reply k refl

@@ -15,15 +15,15 @@ pub mod Gathering
 pub mod Blocks
 -- the reader
 pub mod Time
-pub mod Places
+pub mod MessageLayout
 pub mod Chart
 pub mod Catalogue
 pub mod Grid
 pub mod Bitmap
-pub mod Values
+pub mod DataSection
 pub mod Message
-pub mod Parts
-pub mod Points
+pub mod HandedBack
+pub mod DataNumbers
 pub mod Display
 pub mod Bitreader
 pub mod Field
@@ -35,7 +35,7 @@ pub mod Scaling
 pub mod Steps
 -- the writer and the packer
 pub mod Writable
-pub mod Sections
+pub mod Framing
 pub mod Writer
 pub mod Packer
 -- the C face

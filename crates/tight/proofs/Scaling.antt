@@ -15,4 +15,5 @@ pub reference : Tight contracts.reference.ended λ M. contracts.reference.clause
 reference k g h x y ws vs = by-clause k λ p q. (p (pos 0) ∙ sym (q (pos 0)), refl)
 
 pub choose : Tight contracts.choose.ended λ M. contracts.choose.clauses
-choose k g h x y ws vs = by-clause k λ p q. ((λ i. record { reference = (p (pos 0) .0 ∙ sym (q (pos 0) .0)) i; exponent = (p (pos 0) .1 ∙ sym (q (pos 0) .1)) i }), refl)
+choose k g h x y ws vs =
+    by-clause k λ p q. ((λ i. record { reference = (p (pos 0) .0 ∙ sym (q (pos 0) .0)) i; exponent = (p (pos 0) .1 ∙ sym (q (pos 0) .1)) i }), refl)

@@ -22,7 +22,8 @@ pub or-below : (a b n : ℕ) → ltb (bitOr a b) (2 ^ n) ≡ ltb a (2 ^ n) && lt
 or-below a b n = ⊎-elim
     (λ h. ⊎-elim
     (λ k. lt-ltb (bitOr a b) (2 ^ n) (or-lt n a b h k) ∙ sym (rw (lt-ltb a (2 ^ n) h) (lt-ltb b (2 ^ n) k)))
-    (λ k. le-ltb (bitOr a b) (2 ^ n) (omega (arith, or-add-and a b, and-le-l a b)) ∙ sym (rw (lt-ltb a (2 ^ n) h) (le-ltb b (2 ^ n) k)))
+    (λ k. le-ltb (bitOr a b) (2 ^ n) (omega (arith, or-add-and a b, and-le-l a b))
+    ∙ sym (rw (lt-ltb a (2 ^ n) h) (le-ltb b (2 ^ n) k)))
     (lt-or-ge b (2 ^ n)))
     (λ h. le-ltb (bitOr a b) (2 ^ n) (omega (arith, or-add-and a b, and-le-r a b)) ∙ sym (rw (le-ltb a (2 ^ n) h) refl))
     (lt-or-ge a (2 ^ n))
@@ -42,7 +43,8 @@ pub below-turn : (n : ℕ) (x : ℕ → ℕ) (i all : ℕ) → ltb all (2 ^ n) �
 unfolding anyBelow
 below-turn n x i all e =
     let f : ℕ → Bool = λ k. leb (2 ^ n) (x k) in
-    or-below all (x i) n ∙ ap₂ (λ (x y : Bool). x && y) e (below-least (x i) (2 ^ n)) ∙ sym (split (anyBelow f i) (f i)) ∙ ap (λ (x : ℕ). not (anyBelow f x)) (sym (add-one i))
+    or-below all (x i) n ∙ ap₂ (λ (x y : Bool). x && y) e (below-least (x i) (2 ^ n)) ∙ sym (split (anyBelow f i) (f i))
+    ∙ ap (λ (x : ℕ). not (anyBelow f x)) (sym (add-one i))
   where
     split : (x y : Bool) → not (x || y) ≡ not x && not y
     split true y = refl
@@ -52,10 +54,13 @@ below-turn n x i all e =
 pub below-wide : (n : ℕ) (vs : List ℕ) → allBelow n vs ≡ true → Wide n vs
 unfolding allBelow
 below-wide n vs e k = ⊎-elim
-    (λ l. leb-false (2 ^ n) (getD vs k 0) (none-below (λ j. leb (2 ^ n) (getD vs j 0)) (length vs) (not-true (anyBelow (λ j. leb (2 ^ n) (getD vs j 0)) (length vs)) e) k l))
+    (λ l. leb-false (2 ^ n) (getD vs k 0)
+    (none-below (λ j. leb (2 ^ n) (getD vs j 0)) (length vs)
+    (not-true (anyBelow (λ j. leb (2 ^ n) (getD vs j 0)) (length vs)) e) k l))
     (λ g. subst (λ (x : ℕ). x < 2 ^ n) (sym (List·getD-eq-default vs 0 g)) (pow-pos n))
     (lt-or-ge k (length vs))
 
 pub wide-below : (n : ℕ) (vs : List ℕ) → Wide n vs → allBelow n vs ≡ true
 unfolding allBelow
-wide-below n vs w = ap not (no-below (λ k. leb (2 ^ n) (getD vs k 0)) (length vs) (λ k l. lt-leb (2 ^ n) (getD vs k 0) (w k)))
+wide-below n vs w =
+    ap not (no-below (λ k. leb (2 ^ n) (getD vs k 0)) (length vs) (λ k l. lt-leb (2 ^ n) (getD vs k 0) (w k)))

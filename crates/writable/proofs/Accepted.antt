@@ -24,7 +24,7 @@ use Rattle.laws.specs.Signs.{SignFree}
 use Rattle.reply.proofs.Stages.{passed}
 use Rattle.laws.proofs.Rows.{none-of}
 use Rattle.laws.proofs.Points.{flags-two, point-ok as pointKept, even-marks}
-use Rattle.writable.specs.Rows.{frontRows, scaleFaults, middleRows, earlyRows, pointsBad, listFaults, ownRows}
+use Rattle.writable.specs.Rows.{frontRows, exponentFaults, middleRows, earlyRows, pointsBad, listFaults, ownRows}
 use Rattle.writable.specs.Listed.{Listed}
 
 -- 13 at one point
@@ -33,7 +33,8 @@ pub record PointOk (bits m v : ℕ) : Type 0 where
   pub away : m ≡ 0 → v ≡ 0
   pub value : v < 2 ^ bits
 
-point-ok : (bitmap : Bool) (bits mark value : ℕ) → mark < 2 → pointBad bitmap bits mark value ≡ false → PointOk bits mark value
+point-ok : (bitmap : Bool) (bits mark value : ℕ) → mark < 2 → pointBad bitmap bits mark value ≡ false
+    → PointOk bits mark value
 point-ok bitmap bits mark value m e =
     let p = pointKept bitmap bits mark value e in
     record { mark = m; away = λ z. p .absent z .1; value = p .value }
@@ -44,10 +45,11 @@ pub record ScaleOk (scale : Scale) (packing : Packing) : Type 0 where
   pub flags : packing .flags ≤ 2
   pub bits : packing .bits ≤ bitsMost
 
-pub scale-ok : (scale : Scale) (packing : Packing) → anyOf (scaleFaults scale packing) ≡ false → ScaleOk scale packing
-unfolding scaleFaults packingFaults
+pub scale-ok : (scale : Scale) (packing : Packing) → anyOf (exponentFaults scale packing) ≡ false
+    → ScaleOk scale packing
+unfolding exponentFaults packingFaults
 scale-ok scale packing h =
-    let d = none-of (scaleFaults scale packing) h in
+    let d = none-of (exponentFaults scale packing) h in
     record {
       e = omega (arith, within exponentMost (scale .e .value) (d .0));
       flags = flags-two (packing .flags) (d .1 .0);
@@ -58,13 +60,14 @@ pub record Accepted (pds : List ℕ) (form : Form) (scale : Scale) (values marks
   pub pds-most : length pds ≤ pdsMost
   pub points-most : pointsOf (theGrid found) ≤ pointsMost
   pub grid : anyOf (gridFaults (theGrid found)) ≡ false
-  pub scaled : anyOf (scaleFaults scale (form .packing)) ≡ false
+  pub scaled : anyOf (exponentFaults scale (form .packing)) ≡ false
   pub values-long : length values ≡ n
   pub marks-long : length marks ≡ n
   pub point : (i : ℕ) → i < n → PointOk (form .packing .bits) (markOf marks i) (valueOf values i)
 
 pub accepted-of : (pds : List ℕ) (form : Form) (scale : Scale) (lent : Lent) (values marks : List ℕ) (found : Found) (n : ℕ) (r : Refusal)
-    → r ≡ first (ownRows pds form scale lent values marks found n) → r .number ≡ 0 → Accepted pds form scale values marks found n
+    → r ≡ first (ownRows pds form scale lent values marks found n) → r .number ≡ 0
+    → Accepted pds form scale values marks found n
 unfolding ownRows earlyRows frontRows middleRows listFaults pdsFaults gridFaults listsFit pointsBad
 accepted-of pds form scale lent values marks found n r e z =
     let p = passed (ownRows pds form scale lent values marks found n) (tt, (tt, (tt, (tt, (tt, (tt, (tt, tt))))))) (ap (λ (q : Refusal). q .number) (sym e) ∙ z) in
@@ -74,14 +77,19 @@ accepted-of pds form scale lent values marks found n r e z =
     let q = none-of (listFaults pds form values marks n) (g .1 .1 .1 .0) in
     let fit = not-false (eqb (length values) n && eqb (length marks) n) (q .0) in
     record {
-      pds-most = ltb-false pdsMost (length pds) (or-right (ltb (length pds) pdsLeast) (ltb pdsMost (length pds)) (a .1 .0));
-      points-most = ltb-false pointsMost (pointsOf (theGrid found)) (or-right (ltb (pointsOf (theGrid found)) 1) (ltb pointsMost (pointsOf (theGrid found))) (c .1 .1 .0));
+      pds-most = ltb-false pdsMost (length pds)
+          (or-right (ltb (length pds) pdsLeast) (ltb pdsMost (length pds)) (a .1 .0));
+      points-most = ltb-false pointsMost (pointsOf (theGrid found))
+          (or-right (ltb (pointsOf (theGrid found)) 1) (ltb pointsMost (pointsOf (theGrid found))) (c .1 .1 .0));
       grid = g .0;
       scaled = g .1 .1 .0;
       values-long = eqb-true (length values) n (both (eqb (length values) n) (eqb (length marks) n) fit .0);
       marks-long = eqb-true (length marks) n (both (eqb (length values) n) (eqb (length marks) n) fit .1);
-      point = λ i l. point-ok (bitmapGiven (form .bitmap)) (form .packing .bits) (markOf marks i) (valueOf values i) (even-marks marks n (q .1 .0) i l)
-          (none-below (λ i. pointBad (bitmapGiven (form .bitmap)) (form .packing .bits) (markOf marks i) (valueOf values i)) n (q .1 .1 .0) i l);
+      point = λ i l. point-ok (bitmapGiven (form .bitmap)) (form .packing .bits) (markOf marks i) (valueOf values i)
+          (even-marks marks n (q .1 .0) i l)
+          (none-below
+          (λ i. pointBad (bitmapGiven (form .bitmap)) (form .packing .bits) (markOf marks i) (valueOf values i)) n
+          (q .1 .1 .0) i l);
     }
 
 -- the lists past their end hold zeros
@@ -90,9 +98,11 @@ pub listed-of : (values marks : List ℕ) (bits n : ℕ) → length values ≡ n
 listed-of values marks bits n ev em h p = record {
   same = em ∙ sym ev;
   few = subst (λ (x : ℕ). x ≤ pointsMost) (sym ev) h;
-  mark = λ i. ⊎-elim (λ (l : i < n). p i l .mark) (λ (g : n ≤ i). subst (λ (x : ℕ). x < 2) (sym (past marks em i g)) (omega arith)) (lt-or-ge i n);
+  mark = λ i. ⊎-elim (λ (l : i < n). p i l .mark)
+      (λ (g : n ≤ i). subst (λ (x : ℕ). x < 2) (sym (past marks em i g)) (omega arith)) (lt-or-ge i n);
   away = λ i. ⊎-elim (λ (l : i < n) z. p i l .away z) (λ (g : n ≤ i) z. past values ev i g) (lt-or-ge i n);
-  value = λ i. ⊎-elim (λ (l : i < n). p i l .value) (λ (g : n ≤ i). subst (λ (x : ℕ). x < 2 ^ bits) (sym (past values ev i g)) (pow-pos bits)) (lt-or-ge i n);
+  value = λ i. ⊎-elim (λ (l : i < n). p i l .value)
+      (λ (g : n ≤ i). subst (λ (x : ℕ). x < 2 ^ bits) (sym (past values ev i g)) (pow-pos bits)) (lt-or-ge i n);
 }
   where
     past : (xs : List ℕ) → length xs ≡ n → (i : ℕ) → n ≤ i → getD xs i 0 ≡ 0

@@ -17,7 +17,8 @@ use Rattle.writable.specs.Rows.{marksOff, pointsBad}
 pub any-or : (f g : ℕ → Bool) (n : ℕ) → anyBelow (λ i. f i || g i) n ≡ anyBelow f n || anyBelow g n
 unfolding anyBelow
 any-or f g zero = refl
-any-or f g (suc n) = ap (λ (x : Bool). x || (f n || g n)) (any-or f g n) ∙ apart (anyBelow f n) (anyBelow g n) (f n) (g n)
+any-or f g (suc n) =
+    ap (λ (x : Bool). x || (f n || g n)) (any-or f g n) ∙ apart (anyBelow f n) (anyBelow g n) (f n) (g n)
   where
     apart : (a b c d : Bool) → ((a || b) || (c || d)) ≡ ((a || c) || (b || d))
     apart true b c d = refl
@@ -37,7 +38,8 @@ point-split false false true v l = refl
 point-split true false false v l = refl
 point-split false false false v l = refl
 
-pub points-split : (b : Bool) (bits : ℕ) (values marks : List ℕ) (n : ℕ) → length values ≡ n → (o s t : Bool) → o ≡ marksOff b marks n
+pub points-split : (b : Bool) (bits : ℕ) (values marks : List ℕ) (n : ℕ) → length values ≡ n → (o s t : Bool)
+    → o ≡ marksOff b marks n
     → s ≡ b && strays values marks n → t ≡ allBelow bits values → (o || s) || not t ≡ pointsBad b bits values marks n
 unfolding pointsBad pointBad marksOff strays allBelow
 points-split b bits values marks n e o s t eo es et =
@@ -52,7 +54,8 @@ points-split b bits values marks n e o s t eo es et =
     (sym (any-or odd bad n)
     ∙ any-ext (λ i. odd i || bad i) (λ i. (off i || (b && lost i)) || wide i) n
     (λ i h. point-split b (odd i) (eqb (markOf marks i) 0) (not (eqb (valueOf values i) 0)) (wide i))
-    ∙ any-or (λ i. off i || (b && lost i)) wide n ∙ ap (λ (x : Bool). x || anyBelow wide n) (any-or off (λ i. b && lost i) n))
+    ∙ any-or (λ i. off i || (b && lost i)) wide n
+    ∙ ap (λ (x : Bool). x || anyBelow wide n) (any-or off (λ i. b && lost i) n))
   where
     twice : (x : Bool) → not (not x) ≡ x
     twice true = refl

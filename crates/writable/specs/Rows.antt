@@ -26,13 +26,14 @@ frontRows pds found =
     ∷ []
 
 -- 11: E and the packing
-unfoldable pub scaleFaults : Scale → Packing → List Bool
-scaleFaults scale packing = beyond exponentMost (scale .e .value) ∷ packingFaults packing
+unfoldable pub exponentFaults : Scale → Packing → List Bool
+exponentFaults scale packing = beyond exponentMost (scale .e .value) ∷ packingFaults packing
 
 -- 10 and 11, of n points
 unfoldable pub middleRows : Form → Scale → Lent → List ℕ → List ℕ → ℕ → List Row
 middleRows form scale lent values marks n =
-    row 10 (anyOf (storedFaults (form .bitmap) lent values marks n)) ∷ row 11 (anyOf (scaleFaults scale (form .packing))) ∷ []
+    row 10 (anyOf (storedFaults (form .bitmap) lent values marks n))
+    ∷ row 11 (anyOf (exponentFaults scale (form .packing))) ∷ []
 
 -- 13, at one of n points
 abbrev pub anyBad : Bool → ℕ → List ℕ → List ℕ → ℕ → Bool

@@ -10,14 +10,16 @@ ghost use Rattle.rules.specs.Bounds.{exponentMost};
 ghost use Rattle.rules.specs.Numbers.{beyond};
 ghost use Rattle.rules.specs.Table.{anyOf, first};
 ghost use Rattle.rules.specs.Places.{hasGrid, hasBitmap};
-ghost use Rattle.rules.specs.Bitmap.{bitmapGiven, marksLong};
+ghost use Rattle.rules.specs.Bitmap.{bitmapGiven, marksLong, lentAs};
 ghost use Rattle.rules.specs.Writing.{pdsFaults, storedFaults, gridGiven};
 ghost use Rattle.marks.specs.Marks.{strays};
-ghost use Rattle.writable.specs.Rows.{frontRows, scaleFaults, middleRows, earlyRows, pointsBad, listFaults, ownRows};
+ghost use Rattle.writable.specs.Rows.{frontRows, exponentFaults, middleRows, earlyRows, pointsBad, listFaults};
+ghost use Rattle.writable.specs.Rows.{ownRows};
 
 mod unlisted; // unlisted.rt: the same by the marks alone, of values in no list
 
 use choices::choose;
+use data_section::packing_bad;
 use grid::grid_bad;
 use grid::grid_missing;
 use grid::the_grid;
@@ -41,7 +43,6 @@ use rules::bounds::PDS_MOST;
 use time::time_bad;
 pub use unlisted::judge_marks;
 use unlisted::marks_off;
-use values::packing_bad;
 use widths::all_below;
 
 // 5: the PDS's length, and its octets 1-3.
@@ -53,7 +54,7 @@ pub fn pds_bad(pds: &[u8]) -> bool
         | (three(pds, 0, 1) as usize != pds.len())
 }
 
-// 5, 6, 7 and 9.
+// Rows 5, 6, 7 and 9: the PDS, its time, and the grid.
 fn front(pds: &[u8], found: Found) -> Refusal
     ensures { λ r. ⌜ r ≡ first (frontRows (now (pds .entry)) found) ⌝ }
 {
@@ -70,7 +71,8 @@ pub(crate) fn lists_fit(many: usize, marks: &[u8], n: u32) -> bool
 
 // 10, of a form that wants the stored bitmap of a number.
 fn store_bad(number: u16, store: &[u8], wanted: u16, long: usize, marks: &[u8], n: u32) -> bool
-    ensures { λ r. ⌜ ((values : List ℕ) → length values ≡ long → r ≡ anyOf (storedFaults (Stored wanted) (record { number = number; octets = now (store .entry) }) values (now (marks .entry)) n)) ⌝ }
+    ensures { λ r. ⌜ ((values : List ℕ) → length values ≡ long → r
+        ≡ anyOf (storedFaults (Stored wanted) (lentAs number (now (store .entry))) values (now (marks .entry)) n)) ⌝ }
 {
     if (wanted == 0) | (number != wanted) | (store.len() < (n as usize + 7) / 8) {
         return true;
@@ -83,7 +85,8 @@ fn store_bad(number: u16, store: &[u8], wanted: u16, long: usize, marks: &[u8], 
 
 // 10, of values whose list is so long.
 fn stored_bad(bitmap: Bitmap, number: u16, store: &[u8], long: usize, marks: &[u8], n: u32) -> bool
-    ensures { λ r. ⌜ ((values : List ℕ) → length values ≡ long → r ≡ anyOf (storedFaults bitmap (record { number = number; octets = now (store .entry) }) values (now (marks .entry)) n)) ⌝ }
+    ensures { λ r. ⌜ ((values : List ℕ) → length values ≡ long → r
+        ≡ anyOf (storedFaults bitmap (lentAs number (now (store .entry))) values (now (marks .entry)) n)) ⌝ }
 {
     match bitmap {
         Bitmap::Without => false,
@@ -92,15 +95,16 @@ fn stored_bad(bitmap: Bitmap, number: u16, store: &[u8], long: usize, marks: &[u
     }
 }
 
+// Of 11, E outside −32,767 to 32,767.
 fn exponent_bad(e: Signed) -> bool
     ensures { λ r. ⌜ r ≡ beyond exponentMost (e .value) ⌝ }
 {
     (EXPONENT_MOST < e.value) | (e.value < -EXPONENT_MOST)
 }
 
-// 11: E, and the packing.
+// Row 11: E, and the packing.
 pub fn scale_bad(scale: Scale, packing: Packing) -> bool
-    ensures { λ r. ⌜ r ≡ anyOf (scaleFaults scale packing) ⌝ }
+    ensures { λ r. ⌜ r ≡ anyOf (exponentFaults scale packing) ⌝ }
 {
     exponent_bad(scale.e) | packing_bad(packing)
 }
@@ -115,7 +119,8 @@ fn middle(
     marks: &[u8],
     n: u32,
 ) -> Refusal
-    ensures { λ r. ⌜ ((values : List ℕ) → length values ≡ long → r ≡ first (middleRows form scale (record { number = number; octets = now (store .entry) }) values (now (marks .entry)) n)) ⌝ }
+    ensures { λ r. ⌜ ((values : List ℕ) → length values ≡ long → r
+        ≡ first (middleRows form scale (lentAs number (now (store .entry))) values (now (marks .entry)) n)) ⌝ }
 {
     let bitmap = form.bitmap;
     refuse(
@@ -137,7 +142,10 @@ pub(crate) fn judge_early(
     found: Found,
     n: u32,
 ) -> Refusal
-    ensures { λ r. ⌜ ((values : List ℕ) → length values ≡ long → r ≡ first (earlyRows (now (pds .entry)) form scale (record { number = number; octets = now (store .entry) }) values (now (marks .entry)) found n)) ⌝ }
+    ensures { λ r. ⌜ ((values : List ℕ) → length values ≡ long → r
+        ≡ first
+        (earlyRows (now (pds .entry)) form scale (lentAs number (now (store .entry))) values (now (marks .entry)) found
+        n)) ⌝ }
 {
     let early = front(pds, found);
     if early.number != 0 {
@@ -156,7 +164,8 @@ fn lost(bitmap: bool, values: &[u32], marks: &[u8], n: u32) -> bool
     false
 }
 
-// 13, at one of n points. Marks and values each in a loop of their own: lists of one width go through the machine faster.
+// 13, at one of n points. Marks and values each in a loop of their own: lists of one width go through the machine
+// faster.
 fn points_bad(bitmap: bool, bits: u8, values: &[u32], marks: &[u8], n: u32) -> bool
     requires { ⌜ length (now values) ≡ n ⌝ }
     ensures { λ r. ⌜ r ≡ pointsBad bitmap bits (now (values .entry)) (now (marks .entry)) n ⌝ }
@@ -171,12 +180,14 @@ pub(crate) fn has_grid(pds: &[u8]) -> bool
     128 <= octet(pds, 0, 8)
 }
 
+// Whether the PDS announces a BMS.
 pub(crate) fn has_bitmap(pds: &[u8]) -> bool
     ensures { λ r. ⌜ r ≡ hasBitmap (now (pds .entry)) 0 ⌝ }
 {
     64 <= octet(pds, 0, 8) % 128
 }
 
+// Whether a grid is given.
 pub(crate) fn grid_given(grid: Found) -> bool
     ensures { λ r. ⌜ r ≡ gridGiven grid ⌝ }
 {
@@ -186,6 +197,7 @@ pub(crate) fn grid_given(grid: Found) -> bool
     }
 }
 
+// Whether there is a bitmap.
 pub(crate) fn bitmap_given(bitmap: Bitmap) -> bool
     ensures { λ r. ⌜ r ≡ bitmapGiven bitmap ⌝ }
 {
@@ -196,7 +208,7 @@ pub(crate) fn bitmap_given(bitmap: Bitmap) -> bool
     }
 }
 
-// 13.
+// Row 13: the lists, their points, and PDS octet 8 beside the parts given.
 fn lists_bad(pds: &[u8], form: Form, values: &[u32], marks: &[u8], n: u32) -> bool
     ensures { λ r. ⌜ r ≡ anyOf (listFaults (now (pds .entry)) form (now (values .entry)) (now (marks .entry)) n) ⌝ }
 {
@@ -224,7 +236,10 @@ pub fn judge(
     found: Found,
     n: u32,
 ) -> Refusal
-    ensures { λ r. ⌜ r ≡ first (ownRows (now (pds .entry)) form scale (record { number = number; octets = now (store .entry) }) (now (values .entry)) (now (marks .entry)) found n) ⌝ }
+    ensures { λ r. ⌜ r ≡
+        first
+        (ownRows (now (pds .entry)) form scale (lentAs number (now (store .entry))) (now (values .entry))
+        (now (marks .entry)) found n) ⌝ }
 {
     let early = judge_early(
         pds,

@@ -1,8 +1,9 @@
-// Rows 5 to 13 by the marks alone: what is left to judge of so many values, known to be 0 at absent points and below 2^N. The
-// packer's X are such values, and stand in no list.
+// Rows 5 to 13 by the marks alone: what is left to judge of so many values, known to be 0 at absent points and below
+// 2^N. The packer's X are such values, and stand in no list.
 ghost use mathlib.Core.Path.{_≡_};
 ghost use Rattle.rules.specs.Table.{anyOf, first};
 ghost use Rattle.writable.specs.Rows.{listFaults, zeros, marksOff, markRows};
+ghost use Rattle.rules.specs.Bitmap.{lentAs};
 use crate::bitmap_given;
 use crate::grid_given;
 use crate::has_bitmap;
@@ -28,7 +29,7 @@ pub(crate) fn marks_off(bitmap: bool, marks: &[u8], n: u32) -> bool
     !all_present(marks, n)
 }
 
-// 13.
+// Row 13 by the marks alone.
 fn marks_bad(pds: &[u8], form: Form, long: usize, marks: &[u8], n: u32) -> bool
     ensures { λ r. ⌜ r ≡ anyOf (listFaults (now (pds .entry)) form (zeros long) (now (marks .entry)) n) ⌝ }
 {
@@ -56,7 +57,10 @@ pub fn judge_marks(
     found: Found,
     n: u32,
 ) -> Refusal
-    ensures { λ r. ⌜ r ≡ first (markRows (now (pds .entry)) form scale (record { number = number; octets = now (store .entry) }) long (now (marks .entry)) found n) ⌝ }
+    ensures { λ r. ⌜ r ≡
+        first
+        (markRows (now (pds .entry)) form scale (lentAs number (now (store .entry))) long (now (marks .entry)) found
+        n) ⌝ }
 {
     let early = judge_early(pds, form, scale, number, store, long, marks, found, n);
     if early.number != 0 {

@@ -1,4 +1,5 @@
-// Whether reading a message gives back the parts that it was written of: grid, bitmap, packing, E and R, the PDS, every value and mark.
+// Whether reading a message gives back the parts that it was written of: grid, bitmap, packing, E and R, the PDS, every
+// value and mark.
 use crate::POINTS;
 use crate::line::word;
 use rules::Bitmap;
@@ -10,10 +11,12 @@ use rules::Header;
 use rules::Scale;
 use rules::Shape;
 
+// Whether two shapes are the same.
 fn same_shape(a: Shape, b: Shape) -> bool {
     (a.ni == b.ni) & (a.nj == b.nj) & (a.scan == b.scan)
 }
 
+// Whether two geometries are the same, by value.
 fn same_geometry(a: Geometry, b: Geometry) -> bool {
     (a.la1.value == b.la1.value)
         & (a.lo1.value == b.lo1.value)
@@ -24,6 +27,7 @@ fn same_geometry(a: Geometry, b: Geometry) -> bool {
         & (a.dj == b.dj)
 }
 
+// Whether two grids are the same.
 fn same_grid(a: Grid, b: Grid) -> bool {
     same_shape(a.shape, b.shape) & same_geometry(a.geometry, b.geometry)
 }
@@ -47,6 +51,7 @@ fn bitmap_number(bitmap: Bitmap) -> u32 {
     }
 }
 
+// Whether a header says the form and the scale that were given.
 fn header_back(h: Header, form: Form, scale: Scale) -> bool {
     let given = form.grid;
     let bitmap = form.bitmap;
@@ -90,6 +95,7 @@ fn numbers_back(a: &[u32], b: &[u32]) -> bool {
     true
 }
 
+// `back` or `lost`.
 fn told(same: bool) {
     if same {
         return word(b"back");
@@ -97,6 +103,7 @@ fn told(same: bool) {
     word(b"lost")
 }
 
+// A message read again beside the parts that it was written of.
 pub(crate) fn read_back(
     s: &[u8],
     pds: &[u8],
@@ -110,7 +117,7 @@ pub(crate) fn read_back(
     let mut own_values = [0u32; POINTS];
     let mut own_marks = [0u8; POINTS];
     let h = field::read(s, number, store, &mut own_values, &mut own_marks);
-    let own_pds = parts::section(s, number, store, 1);
+    let own_pds = handed_back::section(s, number, store, 1);
     let points = h.points as usize;
     let lists = (points == values.len())
         & (points == marks.len())

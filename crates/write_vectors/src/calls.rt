@@ -13,7 +13,8 @@ use crate::spans::octets_part;
 use crate::spans::source_part;
 use rules::Written;
 
-// The reply and the length; of a message its octets too, and whether those after it, or on a refusal all, are as they were.
+// The reply and the length; of a message its octets too, and whether those after it, or on a refusal all, are as they
+// were.
 fn tell(w: Written, s: &[u8], out: &[u8]) {
     line::written(w);
     if w.refusal.number == 0 {
@@ -22,6 +23,7 @@ fn tell(w: Written, s: &[u8], out: &[u8]) {
     line::kept(out, w.len as usize);
 }
 
+// The writer, and whether reading gives its parts back.
 fn write(fields: &[u8], pds: &[u8], store: &[u8], values: &[u32], marks: &[u8], out: &mut [u8]) {
     let w = writer::write(
         pds,
@@ -49,6 +51,7 @@ fn write(fields: &[u8], pds: &[u8], store: &[u8], values: &[u32], marks: &[u8], 
     }
 }
 
+// The check's reply.
 fn check(fields: &[u8], s: &[u8], store: &[u8], numbers: &[i32], marks: &[u8]) {
     let r = checker::check(s, number(fields), store, numbers, marks, decimal(fields));
     line::number(r.number);
@@ -61,6 +64,7 @@ fn tell_packed(fields: &[u8], s: &[u8], store: &[u8], numbers: &[i32], marks: &[
     check(fields, s, store, numbers, marks);
 }
 
+// The packer, and the check of what it wrote.
 fn pack(fields: &[u8], pds: &[u8], store: &[u8], numbers: &[i32], marks: &[u8], out: &mut [u8]) {
     let w = packer::pack(
         pds,
@@ -110,6 +114,7 @@ fn run_source(
     }
 }
 
+// The call that a vector asks for.
 pub(crate) fn run(
     fields: &[u8],
     s: &[u8],

@@ -1,6 +1,6 @@
-// A vector's fields, 50 octets: 1 the call; 2 whether a grid is given, 3-28 the grid; 29 the bitmap's kind, 30-31 its number; 32 flags; 33 N;
-// 34-37 E; 38-41 R; 42-45 D; 46-47 the lent bitmap's number; 48-50 how many octets are lent for the message. Of E, D, latitudes and
-// longitudes, one below 0 stands there as 2^31 and how far it is below -1.
+// A vector's fields, 50 octets: 1 the call; 2 whether a grid is given, 3-28 the grid; 29 the bitmap's kind, 30-31 its
+// number; 32 flags; 33 N; 34-37 E; 38-41 R; 42-45 D; 46-47 the lent bitmap's number; 48-50 how many octets are lent for
+// the message. Of E, D, latitudes and longitudes, one below 0 stands there as 2^31 and how far it is below -1.
 use octets::four;
 use octets::octet;
 use octets::plain;
@@ -25,14 +25,17 @@ pub(crate) fn lowered(x: u32) -> i32 {
     !((x - 2147483648) as i32)
 }
 
+// A number with its sign, from octet k on.
 fn signed(fields: &[u8], k: u8) -> Signed {
     plain(lowered(four(fields, 0, k)))
 }
 
+// Which call it is.
 pub(crate) fn call(fields: &[u8]) -> u8 {
     octet(fields, 0, 1)
 }
 
+// The grid.
 fn grid(fields: &[u8]) -> Grid {
     Grid {
         shape: Shape {
@@ -52,6 +55,7 @@ fn grid(fields: &[u8]) -> Grid {
     }
 }
 
+// The grid, where one is given.
 fn found(fields: &[u8]) -> Found {
     if octet(fields, 0, 2) == 0 {
         return Found::Nothing;
@@ -59,6 +63,7 @@ fn found(fields: &[u8]) -> Found {
     Found::Given(grid(fields))
 }
 
+// The bitmap by its kind.
 fn bitmap(fields: &[u8]) -> Bitmap {
     let kind = octet(fields, 0, 29);
     if kind == 0 {
@@ -70,6 +75,7 @@ fn bitmap(fields: &[u8]) -> Bitmap {
     Bitmap::Stored(two(fields, 0, 30))
 }
 
+// Flags and N.
 fn packing(fields: &[u8]) -> Packing {
     Packing {
         flags: octet(fields, 0, 32),
@@ -77,6 +83,7 @@ fn packing(fields: &[u8]) -> Packing {
     }
 }
 
+// Grid, bitmap and packing.
 pub(crate) fn form(fields: &[u8]) -> Form {
     Form {
         grid: found(fields),
@@ -85,6 +92,7 @@ pub(crate) fn form(fields: &[u8]) -> Form {
     }
 }
 
+// E and R.
 pub(crate) fn scale(fields: &[u8]) -> Scale {
     Scale {
         e: signed(fields, 34),
@@ -92,14 +100,17 @@ pub(crate) fn scale(fields: &[u8]) -> Scale {
     }
 }
 
+// D.
 pub(crate) fn decimal(fields: &[u8]) -> i32 {
     lowered(four(fields, 0, 42))
 }
 
+// The lent bitmap's number.
 pub(crate) fn number(fields: &[u8]) -> u16 {
     two(fields, 0, 46)
 }
 
+// How many octets are lent for the message.
 pub(crate) fn room(fields: &[u8]) -> usize {
     octets::three(fields, 0, 48) as usize
 }

@@ -1,7 +1,9 @@
-// The writer, the check or the packer on each vector of the files that arguments name, and a line for each: the name, then what line.rt says.
+// The writer, the check or the packer on each vector of the files that arguments name, and a line for each: the name,
+// then what line.rt says.
 //
-// A file has octets 1-3 how many vectors it has, and the vectors. A vector has its name's length in one octet, its name, 50 octets of fields
-// (fields.rt) and four lists (runs.rt): the octets of the PDS or the message, the lent bitmap's, the values or the source's numbers, the marks.
+// A file has octets 1-3 how many vectors it has, and the vectors. A vector has its name's length in one octet, its
+// name, 50 octets of fields (fields.rt) and four lists (runs.rt): the octets of the PDS or the message, the lent
+// bitmap's, the values or the source's numbers, the marks.
 mod back; // back.rt: whether reading gives back what was written
 mod calls; // calls.rt: the three calls
 mod fields; // fields.rt: a vector's fields
@@ -19,8 +21,8 @@ use crate::runs::load_octets;
 use crate::spans::numbers_part;
 use crate::spans::octets_part;
 
-// The room of this program's own lists, enough for its vectors: octets of a message, octets of a lent bitmap, points. The codec's bounds are
-// others: where they grow, the stack that this program takes does not.
+// The room of this program's own lists, enough for its vectors: octets of a message, octets of a lent bitmap, points.
+// The codec's bounds are others: where they grow, the stack that this program takes does not.
 const MESSAGE: usize = 262145;
 
 const STORE: usize = 8193;
@@ -45,6 +47,7 @@ fn run_room(
     }
 }
 
+// The vector's name.
 fn print_name(fd: i32) {
     let mut length = [0u8; 1];
     let mut name = [0u8; 255];
@@ -54,6 +57,7 @@ fn print_name(fd: i32) {
     io::write_all(libc::STDOUT_FILENO, octets_part(&name, 0, n));
 }
 
+// Room for the message, and the call.
 fn run_output(fields: &[u8], s: &[u8], store: &[u8], numbers: &[u32], marks: &[u8]) {
     let mut out = [0u8; MESSAGE];
     run_room(fields, s, store, numbers, marks, &mut out, 0, room(fields));
@@ -66,24 +70,28 @@ fn run_marks(fd: i32, fields: &[u8], s: &[u8], store: &[u8], numbers: &[u32]) {
     run_output(fields, s, store, numbers, octets_part(&marks, 0, m));
 }
 
+// The numbers, and on.
 fn run_numbers(fd: i32, fields: &[u8], s: &[u8], store: &[u8]) {
     let mut numbers = [0u32; POINTS];
     let n = load_numbers(fd, &mut numbers);
     run_marks(fd, fields, s, store, numbers_part(&numbers, 0, n));
 }
 
+// The lent bitmap, and on.
 fn run_store(fd: i32, fields: &[u8], s: &[u8]) {
     let mut store = [0u8; STORE];
     let held = load_octets(fd, &mut store);
     run_numbers(fd, fields, s, octets_part(&store, 0, held));
 }
 
+// The octets of the PDS or the message, and on.
 fn run_lists(fd: i32, fields: &[u8]) {
     let mut s = [0u8; MESSAGE];
     let len = load_octets(fd, &mut s);
     run_store(fd, fields, octets_part(&s, 0, len));
 }
 
+// One vector, a line.
 fn run_vector(fd: i32) {
     let mut fields = [0u8; FIELDS];
     print_name(fd);
@@ -92,12 +100,14 @@ fn run_vector(fd: i32) {
     io::write_all(libc::STDOUT_FILENO, b"\n");
 }
 
+// How many vectors a file has.
 fn vectors(fd: i32) -> u32 {
     let mut head = [0u8; 3];
     load(fd, &mut head, 0, 3);
     octets::three(&head, 0, 1)
 }
 
+// Every vector of a file.
 fn run_file(fd: i32) {
     let count = vectors(fd);
     let mut i: u32 = 0;
@@ -107,6 +117,7 @@ fn run_file(fd: i32) {
     }
 }
 
+// The file that argument i names.
 fn open_file(i: usize) {
     let mut path = io::buffer();
     let n = os::arg(i, &mut path);
@@ -119,6 +130,7 @@ fn open_file(i: usize) {
     libc::close(fd);
 }
 
+// Every file that an argument names.
 fn main() {
     let count = os::arg_count();
     let mut i: usize = 1;

@@ -1,10 +1,12 @@
-// The octets lent for a message: what they hold before a call, whether they still hold it, and one number for those that were written.
+// The octets lent for a message: what they hold before a call, whether they still hold it, and one number for those
+// that were written.
 
 // What stands at place i: another octet than at the next place, and not 0.
 fn octet_before(i: usize) -> u8 {
     5 + (i % 251) as u8
 }
 
+// Every octet becomes what it holds before a call.
 pub(crate) fn fill_output(out: &mut [u8]) {
     let mut i: usize = 0;
     while i < out.len() {

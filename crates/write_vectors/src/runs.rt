@@ -1,4 +1,5 @@
-// A list in a file: in three octets how many octets its runs have, then the runs. A run has in three octets how many elements, then the element.
+// A list in a file: in three octets how many octets its runs have, then the runs. A run has in three octets how many
+// elements, then the element.
 
 // Octets that the runs of one list may have.
 const RUNS: usize = 7168;

@@ -22,7 +22,9 @@ fn put_points(values: &[u32], marks: &[u8], bits: u8, held: &mut [u32], out: &mu
     requires { ⌜ length (now held) ≡ heldRoom ⌝ }
     requires { ⌜ count (markOf (now marks)) 0 (length (now values)) * bits / 8 + 4 ≤ length (now out) ⌝ }
     ensures { λ _. ⌜ now (out .exit) ≡
-        packedInto bits (gathered (markOf (now (marks .entry))) (valueOf (now (values .entry))) (length (now (values .entry)))) (now (out .entry)) ⌝ }
+        packedInto bits
+        (gathered (markOf (now (marks .entry))) (valueOf (now (values .entry))) (length (now (values .entry))))
+        (now (out .entry)) ⌝ }
 {
     let mut progress = Progress { place: 0, held: 0 };
     let mut i: usize = 0;
@@ -41,7 +43,9 @@ pub(crate) fn put_values(values: &[u32], marks: &[u8], bits: u8, m: u32, out: &m
     requires { ⌜ m ≡ count (markOf (now marks)) 0 (length (now values)) ⌝ }
     requires { ⌜ m * bits / 8 + 4 ≤ length (now out) ⌝ }
     ensures { λ _. ⌜ now (out .exit) ≡
-        packedInto bits (gathered (markOf (now (marks .entry))) (valueOf (now (values .entry))) (length (now (values .entry)))) (now (out .entry)) ⌝ }
+        packedInto bits
+        (gathered (markOf (now (marks .entry))) (valueOf (now (values .entry))) (length (now (values .entry))))
+        (now (out .entry)) ⌝ }
 {
     if m as usize == values.len() {
         pack(values, bits, out);

@@ -1,4 +1,5 @@
-//! Fields of many points: every grid of the catalogue, the widest and the highest charts, bitmaps with whole octets of ones and of zeros, every N.
+//! Fields of many points: every grid of the catalogue, the widest and the highest charts, bitmaps with whole octets of
+//! ones and of zeros, every N.
 
 use crate::call::{self, Call, Kinds};
 use second_reading::cases::Rng;

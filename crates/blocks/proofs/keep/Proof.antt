@@ -9,7 +9,8 @@ use Rattle.blocks.proofs.keep.Statement.{statement}
 use Rattle.blocks.proofs.keep.Tie as tie
 
 abbrev Inv-loop : tie.InvT-loop
-Inv-loop held₀ j₀ held j = (j ≤ 256) × (length held ≡ 512) × (drop 256 held ≡ drop 256 held₀) × (take j held ≡ take j (drop 256 held₀))
+Inv-loop held₀ j₀ held j =
+    (j ≤ 256) × (length held ≡ 512) × (drop 256 held ≡ drop 256 held₀) × (take j held ≡ take j (drop 256 held₀))
 
 abbrev μ-loop : tie.MeasureT-loop
 μ-loop held₀ j₀ held j = 256 - j

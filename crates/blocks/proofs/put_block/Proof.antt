@@ -18,20 +18,29 @@ abbrev start : tie.Then1 → tie.Start
 start t = t .before .before .before .before .before .before
 
 -- the block fits
-fit : (t : tie.Then1) → let a = start t .args in blockFits (length (a .values .now)) (length (a .marks .now)) (a .at) (length (a .held .now)) (a .progress) (length (a .out .now)) ≡ true
+fit : (t : tie.Then1)
+    → let a = start t .args in blockFits (length (a .values .now)) (length (a .marks .now)) (a .at) (length (a .held .now)) (a .progress) (length (a .out .now)) ≡ true
 fit t = sym (t .before .fits2 .ensures) ∙ t .if1 .taken
 
-gathers : (t : tie.Then1) → let a = start t .args in gatherFits (length (a .values .now)) (length (a .held .now) - a .progress .held) (a .at) (length (a .marks .now)) ≡ true
+gathers : (t : tie.Then1)
+    → let a = start t .args in gatherFits (length (a .values .now)) (length (a .held .now) - a .progress .held) (a .at) (length (a .marks .now)) ≡ true
 gathers t =
     let a = start t .args in
-    ap (λ (x : ℕ). gatherFits (length (a .values .now)) (x - a .progress .held) (a .at) (length (a .marks .now))) (fits-room (length (a .values .now)) (length (a .marks .now)) (a .at) (length (a .held .now)) (a .progress) (length (a .out .now)) (fit t))
-    ∙ fits-gather (length (a .values .now)) (length (a .marks .now)) (a .at) (length (a .held .now)) (a .progress) (length (a .out .now)) (fit t)
+    ap (λ (x : ℕ). gatherFits (length (a .values .now)) (x - a .progress .held) (a .at) (length (a .marks .now)))
+    (fits-room (length (a .values .now)) (length (a .marks .now)) (a .at) (length (a .held .now)) (a .progress)
+    (length (a .out .now)) (fit t))
+    ∙ fits-gather (length (a .values .now)) (length (a .marks .now)) (a .at) (length (a .held .now)) (a .progress)
+    (length (a .out .now)) (fit t)
 
 -- how many are held fits, in a list of 512
 held-fits : (t : tie.Then1) → (start t .args .progress .held ≤ 512) × (length (start t .args .held .now) ≡ 512)
 held-fits t =
-    let a = start t .args in
-    (fits-held (length (a .values .now)) (length (a .marks .now)) (a .at) (length (a .held .now)) (a .progress) (length (a .out .now)) (fit t), fits-room (length (a .values .now)) (length (a .marks .now)) (a .at) (length (a .held .now)) (a .progress) (length (a .out .now)) (fit t))
+    let a = start t .args in (
+      fits-held (length (a .values .now)) (length (a .marks .now)) (a .at) (length (a .held .now)) (a .progress)
+          (length (a .out .now)) (fit t),
+      fits-room (length (a .values .now)) (length (a .marks .now)) (a .at)
+          (length (a .held .now)) (a .progress) (length (a .out .now)) (fit t),
+    )
 
 mul-gather : tie.Need-mul-gather
 mul-gather c = let h = held-fits c in omega arith
@@ -58,8 +67,12 @@ settle-requires c κs =
     let q = c .before .before .before .before in
     let t = q .before .before in
     let a = start t .args in
-    let e = part-gathered (a .values .now) (a .marks .now) (a .at) (a .progress .held) (a .held .now) (gathers t) _ (q .gather .ensures .1) in
-    (ap length e ∙ length-with (a .values .now) (a .marks .now) (a .at) (a .progress .held) (a .held .now) ∙ held-fits t .1, fits-place (length (a .values .now)) (length (a .marks .now)) (a .at) (length (a .held .now)) (a .progress) (length (a .out .now)) (fit t))
+    let e = part-gathered (a .values .now) (a .marks .now) (a .at) (a .progress .held) (a .held .now) (gathers t) _ (q .gather .ensures .1) in (
+      ap length e ∙ length-with (a .values .now) (a .marks .now) (a .at) (a .progress .held) (a .held .now)
+          ∙ held-fits t .1,
+      fits-place (length (a .values .now)) (length (a .marks .now)) (a .at) (length (a .held .now))
+          (a .progress) (length (a .out .now)) (fit t),
+    )
 
 returns : tie.Need-returns
 returns c =
@@ -67,8 +80,11 @@ returns c =
     let q = s .before .before .before .before .before in
     let t = q .before .before in
     let a = start t .args in
-    block-done (a .values .now) (a .marks .now) (a .at) (a .bits) (a .held .now) (a .progress) (a .out .now) (fit t) _ (part-counted (a .values .now) (a .marks .now) (a .at) (a .progress .held) (a .held .now) (gathers t) _ (q .gather .ensures .0))
-    _ (part-gathered (a .values .now) (a .marks .now) (a .at) (a .progress .held) (a .held .now) (gathers t) _ (q .gather .ensures .1)) _ (s .settle .ensures .0) _ (s .settle .ensures .1 .0) _ (s .settle .ensures .1 .1)
+    block-done (a .values .now) (a .marks .now) (a .at) (a .bits) (a .held .now) (a .progress) (a .out .now) (fit t) _
+    (part-counted (a .values .now) (a .marks .now) (a .at) (a .progress .held) (a .held .now) (gathers t) _
+    (q .gather .ensures .0))
+    _ (part-gathered (a .values .now) (a .marks .now) (a .at) (a .progress .held) (a .held .now) (gathers t) _
+    (q .gather .ensures .1)) _ (s .settle .ensures .0) _ (s .settle .ensures .1 .0) _ (s .settle .ensures .1 .1)
 
 returns-2 : tie.Need-returns-2
 returns-2 c =

@@ -14,8 +14,11 @@ slice-aggregate-pack c = let a = c .before .before .before .args in sym (length-
 returns : tie.Need-returns
 returns c =
     let a = c .before .before .before .before .before .before .before .args in
-    let k = c .before .before .pack in
-    (part-fits (a .bits) (a .c) (a .held .now) (a .place) (a .out .now) _ (k .ensures .0), part-packed (a .bits) (a .c) (a .held .now) (a .place) (a .out .now) _ (k .ensures .1))
+    let k = c .before .before .pack in (
+      part-fits (a .bits) (a .c) (a .held .now) (a .place) (a .out .now) _ (k .ensures .0),
+      part-packed (a .bits) (a .c)
+          (a .held .now) (a .place) (a .out .now) _ (k .ensures .1),
+    )
 
 pub put-held-spec : {M : Type 1} → statement M
 put-held-spec =

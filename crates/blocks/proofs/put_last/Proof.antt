@@ -14,7 +14,8 @@ returns : tie.Need-returns
 returns c =
     let q = c .before .before in
     let a = q .before .before .before .before .before .args in
-    last-so (length (a .held .now)) (a .progress) (length (a .out .now)) (q .before .before .if1 .taken) _ _ _ _ _ (q .put-held .ensures .0) (q .put-held .ensures .1)
+    last-so (length (a .held .now)) (a .progress) (length (a .out .now)) (q .before .before .if1 .taken) _ _ _ _ _
+    (q .put-held .ensures .0) (q .put-held .ensures .1)
 
 returns-2 : tie.Need-returns-2
 returns-2 c =

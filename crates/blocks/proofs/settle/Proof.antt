@@ -1,4 +1,5 @@
--- Settling's three ends: fewer than 256 held, 256 packed, and no room for them (laws settle-few, settle-packed, settle-kept).
+-- Settling's three ends: fewer than 256 held, 256 packed, and no room for them (laws settle-few, settle-packed,
+-- settle-kept).
 use borrow.Author.Needs.{needs}
 use native.Mathlib.Omega.{arith}
 use Rattle.blocks.proofs.Settled.{settle-few, settle-packed, settle-kept}
@@ -14,13 +15,15 @@ returns-2 c =
     let t = k .before .before in
     let q = t .before .before .before in
     let a = q .before .before .before .before .before .before .args in
-    settle-packed (a .bits) (a .c) (a .held .now) (a .place) (a .out .now) (omega arith) _ (q .put-held .ensures .0) (t .if2 .taken) _ _ (k .keep .ensures) (q .put-held .ensures .1)
+    settle-packed (a .bits) (a .c) (a .held .now) (a .place) (a .out .now) (omega arith) _ (q .put-held .ensures .0)
+    (t .if2 .taken) _ _ (k .keep .ensures) (q .put-held .ensures .1)
 
 returns-3 : tie.Need-returns-3
 returns-3 c =
     let q = c .before .before .before in
     let a = q .before .before .before .before .before .before .args in
-    settle-kept (a .bits) (a .c) (a .held .now) (a .place) (a .out .now) (omega arith) _ (q .put-held .ensures .0) (c .if2 .left) _ (q .put-held .ensures .1)
+    settle-kept (a .bits) (a .c) (a .held .now) (a .place) (a .out .now) (omega arith) _ (q .put-held .ensures .0)
+    (c .if2 .left) _ (q .put-held .ensures .1)
 
 pub settle-spec : {M : Type 1} → statement M
 settle-spec =

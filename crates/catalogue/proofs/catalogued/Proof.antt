@@ -1,4 +1,5 @@
--- The catalogue is searched from the top: what it gives is what its rows from i on give, row by row (laws hit and miss).
+-- The catalogue is searched from the top: what it gives is what its rows from i on give, row by row (laws hit and
+-- miss).
 use mathlib.Core.Path.{_≡_, refl, sym, _∙_}
 use lib.ListN.{length, drop}
 use Rattle.rules.specs.Grid.{catalogue, lookup}

@@ -23,7 +23,14 @@ returns : tie.Need-returns
 unfolding pointOf
 returns c =
     let scan = c .before .before .before .args .scan in
-    rw (c .pick .ensures, c .before .turned2 .ensures, c .before .before .turned .ensures, bit-1 scan (omega arith), bit-2 scan, bit-3 scan)
+    rw (
+      c .pick .ensures,
+      c .before .turned2 .ensures,
+      c .before .before .turned .ensures,
+      bit-1 scan (omega arith),
+      bit-2 scan,
+      bit-3 scan,
+    )
 
 pub point-spec : {M : Type 1} → statement M
 point-spec =

@@ -14,7 +14,8 @@ returns : tie.Need-returns
 returns c =
     let l = c .before .before .before in
     let r = l .before .before in
-    at (r .before .args .g) (r .before .args .c) _ _ (r .rows-on .ensures) (l .row-long .ensures) (c .before .if1 .taken) _ (c .point .ensures)
+    at (r .before .args .g) (r .before .args .c) _ _ (r .rows-on .ensures) (l .row-long .ensures)
+    (c .before .if1 .taken) _ (c .point .ensures)
 
 returns-2 : tie.Need-returns-2
 returns-2 c =

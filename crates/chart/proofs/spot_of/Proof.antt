@@ -22,4 +22,5 @@ returns-2 c =
     off (b .before .args .g) (b .before .args .k) _ (b .points-on .ensures) (c .if1 .left)
 
 pub spot-of-spec : {M : Type 1} → statement M
-spot-of-spec = tie.close (tie.spec (λ c κs. search needs) (λ c. search needs) (λ c. search needs) spot-requires returns returns-2)
+spot-of-spec =
+    tie.close (tie.spec (λ c κs. search needs) (λ c. search needs) (λ c. search needs) spot-requires returns returns-2)

@@ -35,7 +35,8 @@ add-result-3 : tie.Need-add-result-3
 add-result-3 c = rw (here c .exact) (omega (arith, here c))
 
 returns-2 : tie.Need-returns-2
-returns-2 c = rw (here c .exact) (sym (some (c .before .args .s) (c .before .args .a) (c .before .args .b) (c .if1 .left)))
+returns-2 c =
+    rw (here c .exact) (sym (some (c .before .args .s) (c .before .args .a) (c .before .args .b) (c .if1 .left)))
 
 pub ref-bits-spec : {M : Type 1} → statement M
 ref-bits-spec =

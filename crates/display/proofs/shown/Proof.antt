@@ -9,7 +9,9 @@ use Rattle.display.proofs.shown.Statement.{statement}
 use Rattle.display.proofs.shown.Tie as tie
 
 float-from-bits-t12 : tie.Need-float-from-bits-t12
-float-from-bits-t12 c = no-nan (c .before .before .ref-bits .result) (rw (c .before .before .ref-bits .ensures) (ref-small _ _ _ (omega arith) (omega arith) (omega arith)))
+float-from-bits-t12 c =
+    no-nan (c .before .before .ref-bits .result)
+    (rw (c .before .before .ref-bits .ensures) (ref-small _ _ _ (omega arith) (omega arith) (omega arith)))
 
 float-from-bits-t13 : tie.Need-float-from-bits-t13
 float-from-bits-t13 c =

@@ -1,4 +1,5 @@
--- Reading a field: refused by the message's own rows, by 14, or both lists filled; each from the header and one more row.
+-- Reading a field: refused by the message's own rows, by 14, or both lists filled; each from the header and one more
+-- row.
 use native.Mathlib.Omega.{arith}
 use Prim.Native.Nat.{_-_}
 use borrow.Author.Needs.{needs}
@@ -19,7 +20,8 @@ returns-2 c =
     let other = long .before in
     let asked = other .before .before in
     let a = asked .before .before .before .before .before .args in
-    A.too-short _ _ (a .values .now) (a .marks .now) _ (asked .header .ensures) (other .if1 .left) _ (long .long .ensures) (short .if2 .taken) _ (c .before .refusal .ensures) _ (c .refused .ensures)
+    A.too-short _ _ (a .values .now) (a .marks .now) _ (asked .header .ensures) (other .if1 .left) _
+    (long .long .ensures) (short .if2 .taken) _ (c .before .refusal .ensures) _ (c .refused .ensures)
 
 add-at : tie.Need-add-at
 add-at c =
@@ -44,8 +46,10 @@ fill-lists-requires c κs =
     let a = asked .before .before .before .before .before .args in
     let e = asked .header .ensures in
     let z = other .if1 .left in
-    let r = A.room _ _ (a .values .now) (a .marks .now) _ e z _ (long .long .ensures) (fits .if2 .left) in
-    (A.narrow _ _ (a .values .now) (a .marks .now) _ e z, (A.counted _ _ (a .values .now) (a .marks .now) _ e z, (A.lies _ _ (a .values .now) (a .marks .now) _ e z, r .0)))
+    let r = A.room _ _ (a .values .now) (a .marks .now) _ e z _ (long .long .ensures) (fits .if2 .left) in (
+      A.narrow _ _ (a .values .now) (a .marks .now) _ e z,
+      (A.counted _ _ (a .values .now) (a .marks .now) _ e z, (A.lies _ _ (a .values .now) (a .marks .now) _ e z, r .0)),
+    )
 
 returns-3 : tie.Need-returns-3
 returns-3 c =
@@ -55,7 +59,8 @@ returns-3 c =
     let other = long .before in
     let asked = other .before .before in
     let a = asked .before .before .before .before .before .args in
-    A.done _ _ (a .values .now) (a .marks .now) _ (asked .header .ensures) (other .if1 .left) _ (long .long .ensures) (fits .if2 .left) _ _ (filled .fill-lists .ensures .0) (filled .fill-lists .ensures .1)
+    A.done _ _ (a .values .now) (a .marks .now) _ (asked .header .ensures) (other .if1 .left) _ (long .long .ensures)
+    (fits .if2 .left) _ _ (filled .fill-lists .ensures .0) (filled .fill-lists .ensures .1)
 
 pub read-spec : {M : Type 1} → statement M
 read-spec =

@@ -9,7 +9,8 @@ use Rattle.gathering.proofs.gather.Tie as tie
 gather-fitting-requires : tie.Need-gather-fitting-requires
 gather-fitting-requires c κs =
     let a = c .before .before .before .before .before .before .args in
-    fits-said (length (a .values .now)) (length (a .held .now)) (a .at) (length (a .marks .now)) (sym (c .before .before .fits2 .ensures) ∙ c .before .if1 .taken)
+    fits-said (length (a .values .now)) (length (a .held .now)) (a .at) (length (a .marks .now))
+    (sym (c .before .before .fits2 .ensures) ∙ c .before .if1 .taken)
 
 returns : tie.Need-returns
 returns c =
@@ -18,7 +19,8 @@ returns c =
     (where-fit _ _ _ _ _ (t .if1 .taken) (t .before .fits2 .ensures) (q .gather-fitting .ensures .0), where-fit _ _ _ _ _ (t .if1 .taken) (t .before .fits2 .ensures) (q .gather-fitting .ensures .1))
 
 returns-2 : tie.Need-returns-2
-returns-2 c = (where-not _ _ _ _ (c .if1 .left) (c .before .fits2 .ensures), where-not _ _ _ _ (c .if1 .left) (c .before .fits2 .ensures))
+returns-2 c =
+    (where-not _ _ _ _ (c .if1 .left) (c .before .fits2 .ensures), where-not _ _ _ _ (c .if1 .left) (c .before .fits2 .ensures))
 
 pub gather-spec : {M : Type 1} → statement M
 gather-spec = tie.close (tie.spec (λ c κs. search needs) gather-fitting-requires (λ c. search needs) returns returns-2)

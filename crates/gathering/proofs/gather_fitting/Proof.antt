@@ -1,4 +1,5 @@
--- A turn stores one value at the place reached and moves the place by its mark: the list held is that of one point more (law gather-turn).
+-- A turn stores one value at the place reached and moves the place by its mark: the list held is that of one point more
+-- (law gather-turn).
 use borrow.Author.Needs.{needs}
 use native.Mathlib.Omega.{arith}
 use Prim.Native.Nat.{ℕ, _≤_, _+_, _-_}
@@ -14,7 +15,8 @@ use Rattle.gathering.proofs.gather_fitting.Tie as tie
 
 abbrev Inv-loop : tie.InvT-loop
 Inv-loop values marks at held₀ d₀ j₀ held d j =
-    (j ≤ length values) × (length held ≡ length held₀) × (d ≤ j) × (d ≡ count (hereFrom marks at) 0 j) × (held ≡ gatherInto (hereFrom marks at) (valueOf values) j held₀)
+    (j ≤ length values) × (length held ≡ length held₀) × (d ≤ j) × (d ≡ count (hereFrom marks at) 0 j)
+    × (held ≡ gatherInto (hereFrom marks at) (valueOf values) j held₀)
 
 abbrev μ-loop : tie.MeasureT-loop
 μ-loop values marks at held₀ d₀ j₀ held d j = length values - j
@@ -38,7 +40,8 @@ returns c =
     let a = c .before .before .before .before .before .args in
     let e : l .j ≡ length (a .values .now) = omega arith in (
       l .inv .3 ∙ ap (count (hereFrom (a .marks .now) (a .at)) 0) e,
-      l .inv .4 ∙ ap (λ (x : ℕ). gatherInto (hereFrom (a .marks .now) (a .at)) (valueOf (a .values .now)) x (a .held .now)) e,
+      l .inv .4
+          ∙ ap (λ (x : ℕ). gatherInto (hereFrom (a .marks .now) (a .at)) (valueOf (a .values .now)) x (a .held .now)) e,
     )
 
 pub gather-fitting-spec : {M : Type 1} → statement M

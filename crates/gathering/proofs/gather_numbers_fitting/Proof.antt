@@ -1,4 +1,5 @@
--- A turn stores one value at the place reached and moves the place by its mark: the list held is that of one point more (law gather-turn).
+-- A turn stores one value at the place reached and moves the place by its mark: the list held is that of one point more
+-- (law gather-turn).
 use borrow.Author.Needs.{needs}
 use native.Mathlib.Omega.{arith}
 use Prim.Native.Nat.{ℕ, _≤_, _+_, _-_}
@@ -15,7 +16,8 @@ use Rattle.gathering.proofs.gather_numbers_fitting.Tie as tie
 
 abbrev Inv-loop : tie.InvT-loop
 Inv-loop numbers marks at held₀ d₀ j₀ held d j =
-    (j ≤ length numbers) × (length held ≡ length held₀) × (d ≤ j) × (d ≡ count (hereFrom marks at) 0 j) × (held ≡ gatherInto (hereFrom marks at) (λ k. getD numbers k (pos 0)) j held₀)
+    (j ≤ length numbers) × (length held ≡ length held₀) × (d ≤ j) × (d ≡ count (hereFrom marks at) 0 j)
+    × (held ≡ gatherInto (hereFrom marks at) (λ k. getD numbers k (pos 0)) j held₀)
 
 abbrev μ-loop : tie.MeasureT-loop
 μ-loop numbers marks at held₀ d₀ j₀ held d j = length numbers - j
@@ -39,7 +41,9 @@ returns c =
     let a = c .before .before .before .args in
     let e : l .j ≡ length (a .numbers .now) = omega arith in (
       l .inv .3 ∙ ap (count (hereFrom (a .marks .now) (a .at)) 0) e,
-      l .inv .4 ∙ ap (λ (x : ℕ). gatherInto (hereFrom (a .marks .now) (a .at)) (λ k. getD (a .numbers .now) k (pos 0)) x (a .held .now)) e,
+      l .inv .4
+          ∙ ap (λ (x : ℕ). gatherInto (hereFrom (a .marks .now) (a .at)) (λ k. getD (a .numbers .now) k (pos 0)) x
+          (a .held .now)) e,
     )
 
 pub gather-numbers-fitting-spec : {M : Type 1} → statement M

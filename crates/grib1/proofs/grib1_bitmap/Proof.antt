@@ -1,6 +1,6 @@
 -- The part below, as a record.
 use mathlib.Core.Path.{_∙_, ap}
-use Rattle.parts.specs.declared.{Force.Force}
+use Rattle.handed_back.specs.declared.{Force.Force}
 use Rattle.records.specs.Records.{partBy}
 use borrow.Author.Needs.{needs}
 use Rattle.grib1.proofs.grib1_bitmap.Statement.{statement}

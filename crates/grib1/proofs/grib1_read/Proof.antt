@@ -6,7 +6,11 @@ use Rattle.grib1.proofs.grib1_read.Statement.{statement}
 use Rattle.grib1.proofs.grib1_read.Tie as tie
 
 returns : tie.Need-returns
-returns c = (c .header-record .ensures ∙ ap headerRecord (c .before .before .before .before .before .read .ensures .0), c .before .before .before .before .before .read .ensures .1)
+returns c = (
+  c .header-record .ensures
+      ∙ ap headerRecord (c .before .before .before .before .before .read .ensures .0),
+  c .before .before .before .before .before .read .ensures .1,
+)
 
 pub grib1-read-spec : {M : Type 1} → statement M
 grib1-read-spec =

@@ -15,9 +15,11 @@ returns c =
     let s = f .before in
     let b = s .before .before .before .before .before .before in
     let e = s .scale-by .ensures ∙ ap (λ (z : ℤ). scaleBy z (b .args .r)) (toZ-ofZ (b .fits .e)) in
-    write-made _ _ _ _ _ _ _ _ _ _ _ (f .form-by .ensures) e _ (w .write .ensures .0) _ (w .write .ensures .1) _ (c .written-record .ensures)
+    write-made _ _ _ _ _ _ _ _ _ _ _ (f .form-by .ensures) e _ (w .write .ensures .0) _ (w .write .ensures .1) _
+    (c .written-record .ensures)
 
 pub grib1-write-spec : {M : Type 1} → statement M
 grib1-write-spec =
     tie.close
-    (tie.spec (λ c κs. search needs) (λ c κs. search needs) (λ c κs. search needs) (λ c κs. search needs) (λ c. search needs) returns)
+    (tie.spec (λ c κs. search needs) (λ c κs. search needs) (λ c κs. search needs) (λ c κs. search needs)
+    (λ c. search needs) returns)

@@ -10,4 +10,6 @@ unfolding anyOf orAll gdsFaults
 returns c = rw (c .octet3 .ensures, c .before .octet2 .ensures, c .before .before .octet .ensures)
 
 pub gds-bad-spec : {M : Type 1} → statement M
-gds-bad-spec = tie.close (tie.spec (λ c. search needs) (λ c κs. search needs) (λ c κs. search needs) (λ c κs. search needs) returns)
+gds-bad-spec =
+    tie.close
+    (tie.spec (λ c. search needs) (λ c κs. search needs) (λ c κs. search needs) (λ c κs. search needs) returns)

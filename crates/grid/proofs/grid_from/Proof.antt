@@ -14,4 +14,5 @@ returns-2 c = rw (c .before .before .enum-told .given .1, c .catalogued .ensures
 
 pub grid-from-spec : {M : Type 1} → statement M
 grid-from-spec =
-    tie.close (tie.spec (λ c. search needs) (λ c. search needs) (λ c κs. search needs) (λ c κs. search needs) returns returns-2)
+    tie.close
+    (tie.spec (λ c. search needs) (λ c. search needs) (λ c κs. search needs) (λ c κs. search needs) returns returns-2)

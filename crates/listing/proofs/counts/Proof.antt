@@ -9,8 +9,10 @@ returns : tie.Need-returns
 returns c = (
   wrote-next (wrote-next (wrote-next
       (c .before .before .before .before .before .before .before .before .before .before .before .before .before .before .number .ensures .0)
-      (c .before .before .before .before .before .before .before .before .before .before .number2 .ensures .0) (omega arith))
-      (c .before .before .before .before .before .before .number3 .ensures .0) (omega arith)) (c .before .before .number4 .ensures .0) (omega arith),
+      (c .before .before .before .before .before .before .before .before .before .before .number2 .ensures .0)
+      (omega arith))
+      (c .before .before .before .before .before .before .number3 .ensures .0) (omega arith))
+      (c .before .before .number4 .ensures .0) (omega arith),
   omega arith,
 )
 

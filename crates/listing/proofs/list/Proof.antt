@@ -23,13 +23,15 @@ returns-3 : tie.Need-returns-3
 returns-3 c =
     let r = c .before .before .before .before .before .before .before in
     answered _ _ _ _ _ (c .before .before .refused2 .ensures .0)
-    (refused-is _ _ _ _ (r .before .before .before .before .if2 .left) refl refl (r .read .ensures .0) _ (r .before .before .before .before .before .if1 .left) (c .before .before .before .before .if3 .taken))
+    (refused-is _ _ _ _ (r .before .before .before .before .if2 .left) refl refl (r .read .ensures .0) _
+    (r .before .before .before .before .before .if1 .left) (c .before .before .before .before .if3 .taken))
 
 lines-requires : tie.Need-lines-requires
 lines-requires c κs =
     let r = c .before .before .before .before .before .before in (
       r .before .before .before .before .before .if1 .left,
-      lists-fit _ _ _ _ (r .before .before .before .before .if2 .left) refl refl (r .read .ensures .0) (c .before .before .before .if3 .left) _ _ (r .read .ensures .1 .0) (r .read .ensures .1 .1),
+      lists-fit _ _ _ _ (r .before .before .before .before .if2 .left) refl refl (r .read .ensures .0)
+          (c .before .before .before .if3 .left) _ _ (r .read .ensures .1 .0) (r .read .ensures .1 .1),
     )
 
 cast-result-3 : tie.Need-cast-result-3
@@ -39,7 +41,9 @@ returns-4 : tie.Need-returns-4
 returns-4 c =
     let r = c .before .before .before .before .before .before .before .before .before in
     answered _ _ _ _ _ (c .before .before .lines .ensures .0)
-    (listed-is _ _ _ _ (r .before .before .before .before .if2 .left) refl refl (r .read .ensures .0) (c .before .before .before .before .before .before .if3 .left) _ _ (r .read .ensures .1 .0) (r .read .ensures .1 .1) _ (r .before .before .before .before .before .if1 .left))
+    (listed-is _ _ _ _ (r .before .before .before .before .if2 .left) refl refl (r .read .ensures .0)
+    (c .before .before .before .before .before .before .if3 .left) _ _ (r .read .ensures .1 .0)
+    (r .read .ensures .1 .1) _ (r .before .before .before .before .before .if1 .left))
 
 pub list-spec : {M : Type 1} → statement M
 list-spec =

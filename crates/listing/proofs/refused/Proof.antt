@@ -8,8 +8,13 @@ use Rattle.listing.proofs.refused.Tie as tie
 
 returns : tie.Need-returns
 unfolding refusedLine line joinedTo
-returns c =
-    (wrote-next (wrote-next (c .before .before .before .before .before .before .before .before .before .before .word .ensures) (c .before .before .before .before .before .before .letter .ensures) (omega arith)) (c .before .before .number .ensures .0) (omega arith), omega arith)
+returns c = (
+  wrote-next
+      (wrote-next (c .before .before .before .before .before .before .before .before .before .before .word .ensures)
+      (c .before .before .before .before .before .before .letter .ensures) (omega arith))
+      (c .before .before .number .ensures .0) (omega arith),
+  omega arith,
+)
 
 pub refused-spec : {M : Type 1} → statement M
 refused-spec =

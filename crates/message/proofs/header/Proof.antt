@@ -7,7 +7,9 @@ use Rattle.message.proofs.header.Statement.{statement}
 use Rattle.message.proofs.header.Tie as tie
 
 returns : tie.Need-returns
-returns c = L.early _ _ _ (c .before .before .before .before .parse .ensures) _ (c .before .before .before .judge .ensures) (c .before .if1 .taken) _ (c .refused .ensures)
+returns c =
+    L.early _ _ _ (c .before .before .before .before .parse .ensures) _ (c .before .before .before .judge .ensures)
+    (c .before .if1 .taken) _ (c .refused .ensures)
 
 returns-2 : tie.Need-returns-2
 returns-2 c =
@@ -18,7 +20,11 @@ returns-2 c =
     (c .refused2 .ensures ∙ ap refusedBy (c .before .refusal .ensures))
 
 returns-3 : tie.Need-returns-3
-returns-3 c = L.found _ _ _ (c .before .before .before .before .before .before .before .before .parse .ensures) _ (c .before .before .before .before .before .before .before .judge .ensures) (c .before .before .before .before .before .if1 .left) _ (c .before .before .before .present .ensures) _ (c .before .before .length-bad .ensures) (c .before .if2 .left) _ (c .taken .ensures)
+returns-3 c =
+    L.found _ _ _ (c .before .before .before .before .before .before .before .before .parse .ensures) _
+    (c .before .before .before .before .before .before .before .judge .ensures)
+    (c .before .before .before .before .before .if1 .left) _ (c .before .before .before .present .ensures) _
+    (c .before .before .length-bad .ensures) (c .before .if2 .left) _ (c .taken .ensures)
 
 pub header-spec : {M : Type 1} → statement M
 header-spec =

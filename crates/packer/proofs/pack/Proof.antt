@@ -46,7 +46,8 @@ write-scaled-requires c κs =
     let s = source-same (a .pds .now) (a .form .packing) (a .numbers .now) (a .marks .now) (a .d) (b .fits .d) _ (j .judge-source .ensures) in
     let g = k .choose .ensures (a .d) in
     let h = c .before .before .before .before .if2 .left in
-    listed (a .pds .now) (a .form) (a .number) (a .store .now) (a .numbers .now) (a .marks .now) (a .d) (a .out .now) _ s (i .if1 .left) _ (g .1) h _ (g .0)
+    listed (a .pds .now) (a .form) (a .number) (a .store .now) (a .numbers .now) (a .marks .now) (a .d) (a .out .now) _
+    s (i .if1 .left) _ (g .1) h _ (g .0)
 
 returns-3 : tie.Need-returns-3
 returns-3 c =

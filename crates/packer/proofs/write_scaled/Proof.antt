@@ -1,5 +1,6 @@
--- The writer's table over the list of X: three returns, each one law of Message over what the calls promise, the rows by the marks alone being
--- those of the list (law rows-marked), and the room that what is laid down leaves for the values (law room-of).
+-- The writer's table over the list of X: three returns, each one law of Message over what the calls promise, the rows
+-- by the marks alone being those of the list (law rows-marked), and the room that what is laid down leaves for the
+-- values (law room-of).
 use mathlib.Core.Path.{_≡_, sym, ap, _∙_}
 use mathlib.Core.List.{List}
 use native.Mathlib.Omega.{arith}
@@ -11,8 +12,8 @@ use Rattle.rules.specs.Bitmap.{markOf, valueOf}
 use Rattle.rules.specs.Points.{gathered}
 use Rattle.writable.specs.Rows.{ownRows}
 use Rattle.writable.proofs.Marked.{rows-marked}
-use Rattle.sections.proofs.Placing.{part-length}
-use Rattle.sections.proofs.Message.{Room, room-of, refused-early, refused-late, written}
+use Rattle.framing.proofs.Placing.{part-length}
+use Rattle.framing.proofs.Message.{Room, room-of, refused-early, refused-late, written}
 use Rattle.packer.specs.Scaled.{scaledFrom}
 use Rattle.packer.proofs.Stepped.{length-scaled}
 use borrow.Author.Needs.{needs}
@@ -27,9 +28,11 @@ abbrev xs : tie.Start → List ℕ
 xs b = scaledFrom (b .args .numbers .now) (b .args .marks .now) (b .args .choice .reference) (b .args .choice .exponent)
 
 long : (b : tie.Start) → length (xs b) ≡ length (b .args .numbers .now)
-long b = length-scaled (b .args .numbers .now) (b .args .marks .now) (b .args .choice .reference) (b .args .choice .exponent)
+long b =
+    length-scaled (b .args .numbers .now) (b .args .marks .now) (b .args .choice .reference) (b .args .choice .exponent)
 
-judged : (j : tie.After-judge-marks) → let b = start j in let a = b .args in j .judge-marks .result ≡ first (ownRows (a .pds .now) (a .form) (a .scale) (record { number = a .number; octets = a .store .now }) (xs b) (a .marks .now) (j .before .before .before .grid-from .result) (j .before .points .result))
+judged : (j : tie.After-judge-marks)
+    → let b = start j in let a = b .args in j .judge-marks .result ≡ first (ownRows (a .pds .now) (a .form) (a .scale) (record { number = a .number; octets = a .store .now }) (xs b) (a .marks .now) (j .before .before .before .grid-from .result) (j .before .points .result))
 judged j =
     let b = start j in
     let a = b .args in
@@ -38,14 +41,17 @@ judged j =
 abbrev laid : tie.Else2 → tie.After-lay
 laid e = e .before .before .before .before
 
-room : (e : tie.Else2) → let b = start (laid e .before .before .before .before) in Room (b .args .form) (xs b) (b .args .marks .now) (laid e .lay .result) (length (b .args .out .now))
+room : (e : tie.Else2)
+    → let b = start (laid e .before .before .before .before) in Room (b .args .form) (xs b) (b .args .marks .now) (laid e .lay .result) (length (b .args .out .now))
 room e =
     let l = laid e in
     let i = l .before .before in
     let j = i .before .before in
     let b = start j in
     let a = b .args in
-    room-of (a .pds .now) (a .form) (a .scale) (a .number) (a .store .now) (xs b) (a .marks .now) (a .out .now) _ (j .before .before .before .grid-from .ensures) _ (j .before .before .the-grid .ensures) _ (j .before .points .ensures) _ (judged j) (i .if1 .left) _ (l .lay .ensures .0) (e .if2 .left)
+    room-of (a .pds .now) (a .form) (a .scale) (a .number) (a .store .now) (xs b) (a .marks .now) (a .out .now) _
+    (j .before .before .before .grid-from .ensures) _ (j .before .before .the-grid .ensures) _
+    (j .before .points .ensures) _ (judged j) (i .if1 .left) _ (l .lay .ensures .0) (e .if2 .left)
 
 returns : tie.Need-returns
 returns c =
@@ -81,8 +87,18 @@ put-scaled-requires c κs =
     let e = c .before .before in
     let l = laid e in
     let b = start (l .before .before .before .before) in
-    let q = room e in
-    (q .bits, (b .pre, (q .present ∙ ap (count (markOf (b .args .marks .now)) 0) (long b), omega (arith, q .data-room, l .lay .kept, part-length (l .lay .last .1 .1 .1 .1 .1 .0) (l .lay .result .at)))))
+    let q = room e in (
+      q .bits,
+      (
+        b .pre,
+        (
+          q .present
+              ∙ ap (count (markOf (b .args .marks .now)) 0) (long b),
+          omega
+              (arith, q .data-room, l .lay .kept, part-length (l .lay .last .1 .1 .1 .1 .1 .0) (l .lay .result .at)),
+        ),
+      ),
+    )
 
 returns-3 : tie.Need-returns-3
 returns-3 c =

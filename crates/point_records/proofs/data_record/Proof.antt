@@ -16,4 +16,5 @@ returns-3 c = rw (c .enum-told2 .given .1)
 pub data-record-spec : {M : Type 1} → statement M
 data-record-spec =
     tie.close
-    (tie.spec (λ c. search needs) (λ c κs. search needs) (λ c. search needs) (λ c. search needs) returns returns-2 returns-3)
+    (tie.spec (λ c. search needs) (λ c κs. search needs) (λ c. search needs) (λ c. search needs) returns returns-2
+    returns-3)

@@ -13,7 +13,8 @@ use Rattle.puts.proofs.Puts.{signed-answer, signed-left, unsigned-answe
 use Rattle.puts.proofs.put_signed.Statement.{statement}
 use Rattle.puts.proofs.put_signed.Tie as tie
 
-judged : (c : tie.After-small) → c .small .result ≡ ltb (natAbs (c .before .before .args .z)) (c .before .before .args .half)
+judged : (c : tie.After-small)
+    → c .small .result ≡ ltb (natAbs (c .before .before .args .z)) (c .before .before .args .half)
 judged c = simp (toZ-ofZ (c .before .before .fits .z)) at (c .small .ensures)
 
 yes : (c : tie.Then1) → natAbs (c .before .before .before .args .z) < c .before .before .before .args .half
@@ -36,15 +37,22 @@ returns c =
     let t = d .before .before in
     let b = t .before .before .before in
     let a = b .args in (
-      c .before .before .put-few .ensures .0 ∙ signed-answer (a .out .now) (a .p) (a .k) (a .c) (a .half) (a .z) (b .pre .1 .0) (omega arith) (yes t) _ (spelt d),
-      c .before .before .put-few .ensures .1 ∙ signed-left (a .out .now) (a .p) (a .k) (a .c) (a .half) (a .z) (b .pre .1 .0) (omega arith) (yes t) _ (spelt d),
+      c .before .before .put-few .ensures .0
+          ∙ signed-answer (a .out .now) (a .p) (a .k) (a .c) (a .half) (a .z) (b .pre .1 .0) (omega arith) (yes t) _
+          (spelt d),
+      c .before .before .put-few .ensures .1
+          ∙ signed-left (a .out .now) (a .p) (a .k) (a .c) (a .half) (a .z) (b .pre .1 .0) (omega arith) (yes t) _
+          (spelt d),
     )
 
 returns-2 : tie.Need-returns-2
 returns-2 c =
     let b = c .before .before .before in
-    let a = b .args in
-    (unsigned-answer (a .out .now) (a .p) (a .k) (a .c) (a .half) (a .z) (b .pre .1 .0) (no c), unsigned-left (a .out .now) (a .p) (a .k) (a .c) (a .half) (a .z) (b .pre .1 .0) (no c))
+    let a = b .args in (
+      unsigned-answer (a .out .now) (a .p) (a .k) (a .c) (a .half) (a .z) (b .pre .1 .0) (no c),
+      unsigned-left
+          (a .out .now) (a .p) (a .k) (a .c) (a .half) (a .z) (b .pre .1 .0) (no c),
+    )
 
 pub put-signed-spec : {M : Type 1} → statement M
 put-signed-spec =

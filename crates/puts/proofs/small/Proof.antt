@@ -13,7 +13,8 @@ sub-result c = neg-sub-fits (c .args .half) (omega arith)
 returns : tie.Need-returns
 returns c =
     let a = c .args in
-    rw (neg-back (a .half) (omega arith), toZ-ofZ (c .fits .z), toZ-pos w32 {n = a .half} (omega arith)) (small-is (a .half) (a .z) (omega arith))
+    rw (neg-back (a .half) (omega arith), toZ-ofZ (c .fits .z), toZ-pos w32 {n = a .half} (omega arith))
+    (small-is (a .half) (a .z) (omega arith))
 
 pub small-spec : {M : Type 1} → statement M
 small-spec = tie.close (tie.spec (λ c. search needs) sub-result returns)

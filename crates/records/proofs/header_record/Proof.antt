@@ -11,7 +11,8 @@ returns : tie.Need-returns
 returns c =
     let d = c .before .before .before .before .before .before .before .before .value in
     let e = c .before .before .before .before .before .before .before .value2 in
-    header-made (c .before .before .before .before .before .before .before .before .before .before .before .args .h) _ _ _ _ _ _ _ _ _
+    header-made (c .before .before .before .before .before .before .before .before .before .before .before .args .h) _ _
+    _ _ _ _ _ _ _
     (toZ-ofZ {w = w32} {z = d .result} (record { sfits = d .ok }) ∙ d .ensures)
     (toZ-ofZ {w = w32} {z = e .result} (record { sfits = e .ok }) ∙ e .ensures)
     (c .before .before .before .before .before .before .bitmap-kind .ensures)

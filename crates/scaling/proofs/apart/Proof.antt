@@ -1,5 +1,6 @@
 -- |V − R|, by the laws of Distances.
-use Rattle.scaling.proofs.Distances.{wide-fits, difference-fits, turned-fits, size-fits, turned-is, kept-fits, kept-is}
+use Rattle.scaling.proofs.Distances.{wide-fits, difference-fits, turned-fits, size-fits, turned-is, kept-fits}
+use Rattle.scaling.proofs.Distances.{kept-is}
 use Rattle.scaling.proofs.apart.Statement.{statement}
 use Rattle.scaling.proofs.apart.Tie as tie
 

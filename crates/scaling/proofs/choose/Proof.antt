@@ -18,8 +18,13 @@ returns c d =
     let low = toZ-ofZ {w = w32} {z = w .result .low} (record { sfits = t .struct-told .given .1 .0 .1 }) in
     let high = toZ-ofZ {w = w32} {z = w .result .high} (record { sfits = t .struct-told .given .1 .1 .0 .1 }) in
     let back = toZ-ofZ {w = w32} {z = p .pick .result} (record { sfits = p .pick .ok }) in
-    let r = reference-is (a .numbers .now) (a .marks .now) d _ _ _ (w .ensures .0) (low ∙ w .ensures .1 .0) (p .pick .ensures) in
-    (back ∙ r, exponent-is (a .numbers .now) (a .marks .now) d _ _ (p .pick .ok) r (w .ensures .1 .1) (a .bits) _ _ (s .spread .ensures ∙ ap₂ spreadOf back high) (c .least-step .ensures))
+    let r = reference-is (a .numbers .now) (a .marks .now) d _ _ _ (w .ensures .0) (low ∙ w .ensures .1 .0) (p .pick .ensures) in (
+      back ∙ r,
+      exponent-is (a .numbers .now) (a .marks .now) d _ _ (p .pick .ok) r (w .ensures .1 .1) (a .bits) _ _
+          (s .spread .ensures ∙ ap₂ spreadOf back high) (c .least-step .ensures),
+    )
 
 pub choose-spec : {M : Type 1} → statement M
-choose-spec = tie.close (tie.spec (λ c κs. search needs) (λ c κs. search needs) (λ c κs. search needs) (λ c κs. search needs) returns)
+choose-spec =
+    tie.close
+    (tie.spec (λ c κs. search needs) (λ c κs. search needs) (λ c κs. search needs) (λ c κs. search needs) returns)

@@ -17,7 +17,9 @@ use Rattle.scaling.proofs.greatest_of.Statement.{statement}
 use Rattle.scaling.proofs.greatest_of.Tie as tie
 
 abbrev Inv-loop : tie.InvT-loop
-Inv-loop numbers c high greatest₀ k₀ greatest k = (k ≤ c) × ((toZ w32 greatest ≡ folded greaterOf (toZ w32 high) (λ j. getD numbers j (pos 0)) k) × ((j : ℕ) → j < k → mag (getD numbers j (pos 0)) < 2 ^ 31))
+Inv-loop numbers c high greatest₀ k₀ greatest k =
+    (k ≤ c) × ((toZ w32 greatest ≡ folded greaterOf (toZ w32 high) (λ j. getD numbers j (pos 0)) k)
+    × ((j : ℕ) → j < k → mag (getD numbers j (pos 0)) < 2 ^ 31))
 
 abbrev μ-loop : tie.MeasureT-loop
 μ-loop numbers c high greatest₀ k₀ greatest k = c - k
@@ -31,8 +33,15 @@ loop-again c =
     let a = c .before .before .before .before .args in
     let found : toZ w32 (ofZ w32 (c .greater .result)) ≡ folded greaterOf (toZ w32 (ofZ w32 (a .high))) (λ j. getD (a .numbers .now) j (pos 0)) (l .k + 1) =
     toZ-ofZ {w = w32} {z = c .greater .result} (record { sfits = c .greater .ok })
-    ∙ fold-next greaterOf _ (λ j. getD (a .numbers .now) j (pos 0)) (l .k) _ _ _ (toZ-ofZ {w = w32} {z = getD (a .numbers .now) (l .k) (pos 0)} (record { sfits = c .before .greater-arg .given })) (l .inv .1 .0) (c .greater .ensures) in
-    (omega arith, (found, rw add-one (upto (λ j. mag (getD (a .numbers .now) j (pos 0)) < 2 ^ 31) (l .k) (l .inv .1 .1) (c .before .greater-arg .given))))
+    ∙ fold-next greaterOf _ (λ j. getD (a .numbers .now) j (pos 0)) (l .k) _ _ _ (toZ-ofZ {w = w32} {z = getD (a .numbers .now) (l .k) (pos 0)} (record { sfits = c .before .greater-arg .given })) (l .inv .1 .0) (c .greater .ensures) in (
+      omega arith,
+      (
+        found,
+        rw add-one
+            (upto (λ j. mag (getD (a .numbers .now) j (pos 0)) < 2 ^ 31) (l .k) (l .inv .1 .1)
+            (c .before .greater-arg .given)),
+      ),
+    )
 
 returns : tie.Need-returns Inv-loop μ-loop
 returns c =
@@ -40,7 +49,9 @@ returns c =
     let s = c .before .before in
     let a = s .args in
     let e : l .k ≡ a .c = omega arith in (
-      l .inv .1 .0 ∙ ap₂ (λ (n : ℕ) (z : ℤ). folded greaterOf z (λ j. getD (a .numbers .now) j (pos 0)) n) e (toZ-ofZ (s .fits .high)),
+      l .inv .1 .0
+          ∙ ap₂ (λ (n : ℕ) (z : ℤ). folded greaterOf z (λ j. getD (a .numbers .now) j (pos 0)) n) e
+          (toZ-ofZ (s .fits .high)),
       λ j q. l .inv .1 .1 j (omega arith),
     )
 

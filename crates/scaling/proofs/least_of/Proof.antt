@@ -14,7 +14,8 @@ use Rattle.scaling.proofs.least_of.Statement.{statement}
 use Rattle.scaling.proofs.least_of.Tie as tie
 
 abbrev Inv-loop : tie.InvT-loop
-Inv-loop numbers c low least₀ k₀ least k = (k ≤ c) × (toZ w32 least ≡ folded lesserOf (toZ w32 low) (λ j. getD numbers j (pos 0)) k)
+Inv-loop numbers c low least₀ k₀ least k =
+    (k ≤ c) × (toZ w32 least ≡ folded lesserOf (toZ w32 low) (λ j. getD numbers j (pos 0)) k)
 
 abbrev μ-loop : tie.MeasureT-loop
 μ-loop numbers c low least₀ k₀ least k = c - k
@@ -37,7 +38,8 @@ returns c =
     let s = c .before .before in
     let a = s .args in
     let e : l .k ≡ a .c = omega arith in
-    l .inv .1 ∙ ap₂ (λ (n : ℕ) (z : ℤ). folded lesserOf z (λ j. getD (a .numbers .now) j (pos 0)) n) e (toZ-ofZ (s .fits .low))
+    l .inv .1
+    ∙ ap₂ (λ (n : ℕ) (z : ℤ). folded lesserOf z (λ j. getD (a .numbers .now) j (pos 0)) n) e (toZ-ofZ (s .fits .low))
 
 pub least-of-spec : {M : Type 1} → statement M
 least-of-spec =

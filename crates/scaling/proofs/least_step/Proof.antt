@@ -19,12 +19,16 @@ loop-holds c = (omega arith, λ k l. absurd (omega arith))
 returns : tie.Need-returns Inv-loop μ-loop
 returns c =
     let b = c .before .before .before .before in
-    least-found _ _ _ (b .loop .inv .1) _ _ (c .before .before .step .ensures) (c .before .fills .ensures) (c .before .before .before .loop-test .taken) (c .if1 .taken)
+    least-found _ _ _ (b .loop .inv .1) _ _ (c .before .before .step .ensures) (c .before .fills .ensures)
+    (c .before .before .before .loop-test .taken) (c .if1 .taken)
 
 loop-again : tie.Need-loop-again Inv-loop μ-loop
 loop-again c =
-    let b = c .before .before .before .before in
-    (omega arith, least-on _ _ _ (b .loop .inv .1) _ _ (c .before .before .step .ensures) (c .before .fills .ensures) (c .if1 .left))
+    let b = c .before .before .before .before in (
+      omega arith,
+      least-on _ _ _ (b .loop .inv .1) _ _ (c .before .before .step .ensures) (c .before .fills .ensures)
+          (c .if1 .left),
+    )
 
 returns-2 : tie.Need-returns-2 Inv-loop μ-loop
 returns-2 c = least-end _ _ _ (c .before .loop .inv .1) (omega arith)

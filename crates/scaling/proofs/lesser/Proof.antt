@@ -6,10 +6,13 @@ use Rattle.scaling.proofs.lesser.Statement.{statement}
 use Rattle.scaling.proofs.lesser.Tie as tie
 
 returns : tie.Need-returns
-returns c = toZ-ofZ (c .before .fits .a) ∙ picked _ _ _ (ordered _ _ (c .before .fits .a) (c .before .fits .b) _ (c .if1 .taken))
+returns c =
+    toZ-ofZ (c .before .fits .a)
+    ∙ picked _ _ _ (ordered _ _ (c .before .fits .a) (c .before .fits .b) _ (c .if1 .taken))
 
 returns-2 : tie.Need-returns-2
-returns-2 c = toZ-ofZ (c .before .fits .b) ∙ passed _ _ _ (ordered _ _ (c .before .fits .a) (c .before .fits .b) _ (c .if1 .left))
+returns-2 c =
+    toZ-ofZ (c .before .fits .b) ∙ passed _ _ _ (ordered _ _ (c .before .fits .a) (c .before .fits .b) _ (c .if1 .left))
 
 pub lesser-spec : {M : Type 1} → statement M
 lesser-spec = tie.close (tie.spec returns returns-2)

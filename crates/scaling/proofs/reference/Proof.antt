@@ -13,7 +13,8 @@ returns c d =
     let a = c .before .before .before .before .args in
     let low = toZ-ofZ {w = w32} {z = w .result .low} (record { sfits = c .before .struct-told .given .1 .0 .1 }) in
     let r = toZ-ofZ {w = w32} {z = c .pick .result} (record { sfits = c .pick .ok }) in
-    reference-is (a .numbers .now) (a .marks .now) d _ _ _ (w .ensures .0) (low ∙ w .ensures .1 .0) (r ∙ c .pick .ensures)
+    reference-is (a .numbers .now) (a .marks .now) d _ _ _ (w .ensures .0) (low ∙ w .ensures .1 .0)
+    (r ∙ c .pick .ensures)
 
 pub reference-spec : {M : Type 1} → statement M
 reference-spec = tie.close (tie.spec (λ c κs. search needs) (λ c κs. search needs) returns)

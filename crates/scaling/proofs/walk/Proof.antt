@@ -1,5 +1,5 @@
--- One walk: what it keeps is that of the points passed, a block more in a turn (law fold-block), and the rest of the longer list adds nothing;
--- the measure is what is left of the shorter.
+-- One walk: what it keeps is that of the points passed, a block more in a turn (law fold-block), and the rest of the
+-- longer list adds nothing; the measure is what is left of the shorter.
 use mathlib.Core.Path.{_≡_, refl, ap, _∙_, subst}
 use mathlib.Core.Bool.{not}
 use mathlib.Core.Logic.{_⊎_, ⊎-elim}
@@ -16,28 +16,33 @@ use Rattle.rules.specs.Bitmap.{markOf}
 use Rattle.marks.specs.Marks.{noneMarked}
 use Rattle.source.proofs.Blocks.{Gathered, gathered-block, no-more, part, part-long}
 use Rattle.scaling.specs.Spread.{lesserOf, greaterOf, lowestIn, Highest}
-use Rattle.scaling.proofs.Walked.{shorter-is, lowest-none, lowest-in, lowest-out, lowest-whole, highest-none, highest-in, highest-out, highest-whole}
+use Rattle.scaling.proofs.Walked.{shorter-is, lowest-none, lowest-in, lowest-out, lowest-whole, highest-none}
+use Rattle.scaling.proofs.Walked.{highest-in, highest-out, highest-whole}
 use Rattle.scaling.proofs.Folded.{fold-block}
 use Rattle.scaling.proofs.walk.Statement.{statement}
 use Rattle.scaling.proofs.walk.Tie as tie
 
 abbrev Inv-loop : tie.InvT-loop
 Inv-loop numbers marks n held₀ low₀ high₀ i₀ held low high i =
-    (i ≤ n) × ((length held ≡ 256) × ((toZ w32 low ≡ lowestIn numbers marks i) × Highest numbers marks i (toZ w32 high)))
+    (i ≤ n) × ((length held ≡ 256)
+    × ((toZ w32 low ≡ lowestIn numbers marks i) × Highest numbers marks i (toZ w32 high)))
 
 abbrev μ-loop : tie.MeasureT-loop
 μ-loop numbers marks n held₀ low₀ high₀ i₀ held low high i = n - i
 
 loop-holds : tie.Need-loop-holds Inv-loop μ-loop
 loop-holds c =
-    let a = c .before .before .args in
-    (omega arith, (refl, (lowest-none (a .numbers .now) (a .marks .now), highest-none (a .numbers .now) (a .marks .now))))
+    let a = c .before .before .args in (
+      omega arith,
+      (refl, (lowest-none (a .numbers .now) (a .marks .now), highest-none (a .numbers .now) (a .marks .now))),
+    )
 
 -- the points that have marks, and a block of them
 ends : (s : tie.After-shorter Inv-loop μ-loop)
     → let a = s .before .before .args in
     let n = s .shorter .result in
-    ((n ≤ length (a .numbers .now)) × (n ≤ length (a .marks .now))) × ((n ≡ length (a .numbers .now)) ⊎ (n ≡ length (a .marks .now)))
+    ((n ≤ length (a .numbers .now)) × (n ≤ length (a .marks .now)))
+    × ((n ≡ length (a .numbers .now)) ⊎ (n ≡ length (a .marks .now)))
 ends s = shorter-is _ _ _ (s .shorter .ensures)
 
 few : (t : tie.After-shorter2 Inv-loop μ-loop)
@@ -49,21 +54,27 @@ few t = shorter-is _ _ _ (t .shorter2 .ensures)
 abbrev start : tie.After-shorter2 Inv-loop μ-loop → tie.Start Inv-loop μ-loop
 start t = t .before .before .before .before .before
 
-inside : (t : tie.After-shorter2 Inv-loop μ-loop) → t .before .before .loop .i + t .shorter2 .result ≤ length (start t .args .numbers .now)
+inside : (t : tie.After-shorter2 Inv-loop μ-loop)
+    → t .before .before .loop .i + t .shorter2 .result ≤ length (start t .args .numbers .now)
 inside t = omega (arith, few t .0 .0, ends (t .before .before .before) .0 .0)
 
-long : (t : tie.After-shorter2 Inv-loop μ-loop) → length (part (start t .args .numbers .now) (t .before .before .loop .i) (t .shorter2 .result) (inside t)) ≡ t .shorter2 .result
+long : (t : tie.After-shorter2 Inv-loop μ-loop)
+    → length (part (start t .args .numbers .now) (t .before .before .loop .i) (t .shorter2 .result) (inside t))
+    ≡ t .shorter2 .result
 long t = part-long (start t .args .numbers .now) (t .before .before .loop .i) (t .shorter2 .result) (inside t)
 
 gathered : (g : tie.After-gather-numbers Inv-loop μ-loop)
     → let t = g .before .before .before in
     let l = t .before .before .loop in
     let a = start t .args in
-    Gathered (part (a .numbers .now) (l .i) (t .shorter2 .result) (inside t)) (a .marks .now) (l .i) (g .gather-numbers .result) (g .gather-numbers .last .1 .1 .1 .0)
+    Gathered (part (a .numbers .now) (l .i) (t .shorter2 .result) (inside t)) (a .marks .now) (l .i)
+    (g .gather-numbers .result) (g .gather-numbers .last .1 .1 .1 .0)
 gathered g =
     let t = g .before .before .before in
     let l = t .before .before .loop in
-    gathered-block _ (start t .args .marks .now) (l .i) _ (l .held) _ (omega (arith, few t .0 .0, ends (t .before .before .before) .0 .1, long t)) (omega (arith, few t .0 .1, long t)) (g .gather-numbers .ensures .0) (g .gather-numbers .ensures .1)
+    gathered-block _ (start t .args .marks .now) (l .i) _ (l .held) _
+    (omega (arith, few t .0 .0, ends (t .before .before .before) .0 .1, long t)) (omega (arith, few t .0 .1, long t))
+    (g .gather-numbers .ensures .0) (g .gather-numbers .ensures .1)
 
 mul-gather-numbers : tie.Need-mul-gather-numbers Inv-loop μ-loop
 mul-gather-numbers c =
@@ -104,12 +115,15 @@ loop-again c =
       (
         g .gather-numbers .kept .1 .1 .1 .0 ∙ l .inv .1 .0,
         (
-          fold-block numbers marks (l .i) (t .shorter2 .result) (inside t) _ _ (gathered g) lesserOf (λ _. Unit) (λ k w. w ≡ lowestIn numbers marks k)
+          fold-block numbers marks (l .i) (t .shorter2 .result) (inside t) _ _ (gathered g) lesserOf (λ _. Unit)
+              (λ k w. w ≡ lowestIn numbers marks k)
               (λ k w here _ p. lowest-in (markOf marks) (λ i. getD numbers i (pos 0)) k w here p)
               (λ k w absent p. lowest-out (markOf marks) (λ i. getD numbers i (pos 0)) k w absent p)
               _ _ (low ∙ o .least-of .ensures) (λ _ _. tt) (l .inv .1 .1 .0),
-          fold-block numbers marks (l .i) (t .shorter2 .result) (inside t) _ _ (gathered g) greaterOf (λ z. mag z < 2 ^ 31) (λ k w. Highest numbers marks k w)
-              (λ k w here b p. highest-in numbers marks k w p b here) (λ k w absent p. highest-out numbers marks k w p absent)
+          fold-block numbers marks (l .i) (t .shorter2 .result) (inside t) _ _ (gathered g) greaterOf
+              (λ z. mag z < 2 ^ 31) (λ k w. Highest numbers marks k w)
+              (λ k w here b p. highest-in numbers marks k w p b here)
+              (λ k w absent p. highest-out numbers marks k w p absent)
               _ _ (high ∙ c .greatest-of .ensures .0) (c .greatest-of .ensures .1) (l .inv .1 .1 .1),
         ),
       ),
@@ -126,7 +140,11 @@ returns c =
     let low = subst (λ (x : ℕ). toZ w32 (l .low) ≡ lowestIn (a .numbers .now) (a .marks .now) x) e (l .inv .1 .1 .0) in
     let high = subst (λ (x : ℕ). Highest (a .numbers .now) (a .marks .now) x (toZ w32 (l .high))) e (l .inv .1 .1 .1) in (
       ap (λ t. not t) (c .none-marked .ensures),
-      (lowest-whole (a .numbers .now) (a .marks .now) n _ (ends s .0 .0) (ends s .1) _ low, highest-whole (a .numbers .now) (a .marks .now) n _ (ends s .0 .0) (ends s .1) _ high),
+      (
+        lowest-whole (a .numbers .now) (a .marks .now) n _ (ends s .0 .0) (ends s .1) _ low,
+        highest-whole
+            (a .numbers .now) (a .marks .now) n _ (ends s .0 .0) (ends s .1) _ high,
+      ),
     )
 
 pub walk-spec : {M : Type 1} → statement M

@@ -1,4 +1,5 @@
--- The present numbers outside their bound among the points passed, a block more in a turn (law far-more); the measure is what is left of the points.
+-- The present numbers outside their bound among the points passed, a block more in a turn (law far-more); the measure
+-- is what is left of the points.
 use mathlib.Core.Path.{_≡_, refl, ap, _∙_}
 use native.Mathlib.Omega.{arith}
 use Prim.Native.Nat.{_≤_, _+_, _-_}
@@ -13,7 +14,8 @@ use Rattle.source.proofs.present_large.Statement.{statement}
 use Rattle.source.proofs.present_large.Tie as tie
 
 abbrev Inv-loop : tie.InvT-loop
-Inv-loop numbers marks held₀ far₀ i₀ held far i = (i ≤ length numbers) × ((length held ≡ 256) × (far ≡ anyBelow (isFar numbers marks) i))
+Inv-loop numbers marks held₀ far₀ i₀ held far i =
+    (i ≤ length numbers) × ((length held ≡ 256) × (far ≡ anyBelow (isFar numbers marks) i))
 
 abbrev μ-loop : tie.MeasureT-loop
 μ-loop numbers marks held₀ far₀ i₀ held far i = length numbers - i
@@ -21,31 +23,43 @@ abbrev μ-loop : tie.MeasureT-loop
 loop-holds : tie.Need-loop-holds Inv-loop μ-loop
 loop-holds c = (omega arith, (refl, any-none _))
 
-inside : (n : tie.After-next-few Inv-loop μ-loop) → n .before .before .loop .i + n .next-few .result ≤ length (n .before .before .before .before .args .numbers .now)
+inside : (n : tie.After-next-few Inv-loop μ-loop)
+    → n .before .before .loop .i + n .next-few .result ≤ length (n .before .before .before .before .args .numbers .now)
 inside n = omega (arith, n .next-few .ensures .0)
 
 long : (n : tie.After-next-few Inv-loop μ-loop)
-    → length (part (n .before .before .before .before .args .numbers .now) (n .before .before .loop .i) (n .next-few .result) (inside n)) ≡ n .next-few .result
-long n = part-long (n .before .before .before .before .args .numbers .now) (n .before .before .loop .i) (n .next-few .result) (inside n)
+    → length (part (n .before .before .before .before .args .numbers .now) (n .before .before .loop .i)
+    (n .next-few .result) (inside n)) ≡ n .next-few .result
+long n =
+    part-long (n .before .before .before .before .args .numbers .now) (n .before .before .loop .i) (n .next-few .result)
+    (inside n)
 
 -- the numbers of a block, gathered
 gathered : (g : tie.After-gather-numbers Inv-loop μ-loop)
     → let n = g .before .before .before in
     let l = n .before .before .loop in
     let a = n .before .before .before .before .args in
-    Gathered (part (a .numbers .now) (l .i) (n .next-few .result) (inside n)) (a .marks .now) (l .i) (g .gather-numbers .result) (g .gather-numbers .last .1 .1 .1 .0)
+    Gathered (part (a .numbers .now) (l .i) (n .next-few .result) (inside n)) (a .marks .now) (l .i)
+    (g .gather-numbers .result) (g .gather-numbers .last .1 .1 .1 .0)
 gathered g =
     let n = g .before .before .before in
     let f = n .next-few .ensures in
     let l = n .before .before .loop in
     let a = n .before .before .before .before in
-    gathered-block _ (a .args .marks .now) (l .i) _ (l .held) _ (omega (arith, f .0, a .pre, long n)) (omega (arith, f .1 .0, long n)) (g .gather-numbers .ensures .0) (g .gather-numbers .ensures .1)
+    gathered-block _ (a .args .marks .now) (l .i) _ (l .held) _ (omega (arith, f .0, a .pre, long n))
+    (omega (arith, f .1 .0, long n)) (g .gather-numbers .ensures .0) (g .gather-numbers .ensures .1)
 
 any-large-requires : tie.Need-any-large-requires Inv-loop μ-loop
 any-large-requires c κs =
     let g = c .before .before in
     let n = g .before .before .before in
-    omega (arith, no-more _ _ _ _ _ (gathered g), long n, n .next-few .ensures .1 .0, g .gather-numbers .kept .1 .1 .1 .0)
+    omega (
+      arith,
+      no-more _ _ _ _ _ (gathered g),
+      long n,
+      n .next-few .ensures .1 .0,
+      g .gather-numbers .kept .1 .1 .1 .0,
+    )
 
 loop-less : tie.Need-loop-less Inv-loop μ-loop
 loop-less c =
@@ -57,8 +71,15 @@ loop-again c =
     let g = c .before .before .before in
     let n = g .before .before .before in
     let l = n .before .before .loop in
-    let a = n .before .before .before .before .args in
-    (omega (arith, n .next-few .ensures .0), (g .gather-numbers .kept .1 .1 .1 .0 ∙ l .inv .1 .0, far-more (a .numbers .now) (a .marks .now) _ _ (inside n) _ _ (gathered g) _ _ (l .inv .1 .1) (c .any-large .ensures)))
+    let a = n .before .before .before .before .args in (
+      omega (arith, n .next-few .ensures .0),
+      (
+        g .gather-numbers .kept .1 .1 .1 .0
+            ∙ l .inv .1 .0,
+        far-more (a .numbers .now) (a .marks .now) _ _ (inside n) _ _ (gathered g) _ _ (l .inv .1 .1)
+            (c .any-large .ensures),
+      ),
+    )
 
 returns : tie.Need-returns Inv-loop μ-loop
 returns c =

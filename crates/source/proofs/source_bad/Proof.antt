@@ -1,4 +1,5 @@
--- Refusal 18: lengths, and then the numbers where every point is present, or marks and present numbers; each return a law of Field.
+-- Refusal 18: lengths, and then the numbers where every point is present, or marks and present numbers; each return a
+-- law of Field.
 use borrow.Author.Needs.{needs}
 use native.Mathlib.Omega.{arith}
 use mathlib.Core.Path.{_≡_, refl, sym, _∙_}
@@ -19,7 +20,8 @@ returns-2 : tie.Need-returns-2
 returns-2 c = unlike-long _ _ _ (c .before .long .ensures) (c .if2 .taken)
 
 -- as many marks as the numbers ask for
-fitting : (e : tie.Else2) → let a = e .before .before .before .before .args in sizes (a .numbers .now) (a .marks .now) ≡ false
+fitting : (e : tie.Else2)
+    → let a = e .before .before .before .before .args in sizes (a .numbers .now) (a .marks .now) ≡ false
 fitting e =
     let l = e .before in
     let a = l .before .before .before .args in

@@ -17,7 +17,9 @@ returns c =
     let s = q .before .before .before .before in
     let a = s .args in
     with-room (a .numbers .now) (a .r) (a .e) (a .xs .now) (omega arith) _
-    (q .scale-fitting .ensures ∙ ap (λ (x : ℤ). stepsTo (a .numbers .now) x (a .e) (length (a .numbers .now)) (a .xs .now)) (toZ-ofZ (s .fits .r)))
+    (q .scale-fitting .ensures
+    ∙ ap (λ (x : ℤ). stepsTo (a .numbers .now) x (a .e) (length (a .numbers .now)) (a .xs .now))
+    (toZ-ofZ (s .fits .r)))
 
 returns-2 : tie.Need-returns-2
 returns-2 c = let a = c .before .before .args in without-room (a .numbers .now) (a .r) (a .e) (a .xs .now) (omega arith)

@@ -14,7 +14,8 @@ use Rattle.steps.proofs.scale_fitting.Statement.{statement}
 use Rattle.steps.proofs.scale_fitting.Tie as tie
 
 abbrev Inv-loop : tie.InvT-loop
-Inv-loop numbers r e xs₀ i₀ xs i = (i ≤ length numbers) × (length xs ≡ length xs₀) × (xs ≡ stepsTo numbers (toZ w32 r) e i xs₀)
+Inv-loop numbers r e xs₀ i₀ xs i =
+    (i ≤ length numbers) × (length xs ≡ length xs₀) × (xs ≡ stepsTo numbers (toZ w32 r) e i xs₀)
 
 abbrev μ-loop : tie.MeasureT-loop
 μ-loop numbers r e xs₀ i₀ xs i = length numbers - i
@@ -29,8 +30,12 @@ loop-again c =
     let a = d .before .before .before .before .before .args in
     let r = toZ w32 (ofZ w32 (a .r)) in
     let z = getD (a .numbers .now) (l .i) (pos 0) in
-    let k = d .distance .ensures ∙ ap (λ (x : ℤ). natAbs (x -ℤ r)) (toZ-ofZ {w = w32} {z = z} (record { sfits = d .before .distance-arg .given })) in
-    (omega arith, simp length-set (l .inv .1), stored-more (a .numbers .now) r (a .e) (a .xs .now) (l .i) (l .xs) (omega arith) (l .inv .2) (d .distance .result) (c .step .result) k (c .step .ensures))
+    let k = d .distance .ensures ∙ ap (λ (x : ℤ). natAbs (x -ℤ r)) (toZ-ofZ {w = w32} {z = z} (record { sfits = d .before .distance-arg .given })) in (
+      omega arith,
+      simp length-set (l .inv .1),
+      stored-more (a .numbers .now) r (a .e) (a .xs .now) (l .i) (l .xs)
+          (omega arith) (l .inv .2) (d .distance .result) (c .step .result) k (c .step .ensures),
+    )
 
 returns : tie.Need-returns Inv-loop μ-loop
 returns c =
@@ -38,7 +43,8 @@ returns c =
     let s = c .before .before .before in
     let a = s .args in
     let e : l .i ≡ length (a .numbers .now) = omega arith in
-    l .inv .2 ∙ ap (λ (x : ℕ). stepsTo (a .numbers .now) (toZ w32 (ofZ w32 (a .r))) (a .e) x (a .xs .now)) e ∙ ap (λ (x : ℤ). stepsTo (a .numbers .now) x (a .e) (length (a .numbers .now)) (a .xs .now)) (toZ-ofZ (s .fits .r))
+    l .inv .2 ∙ ap (λ (x : ℕ). stepsTo (a .numbers .now) (toZ w32 (ofZ w32 (a .r))) (a .e) x (a .xs .now)) e
+    ∙ ap (λ (x : ℤ). stepsTo (a .numbers .now) x (a .e) (length (a .numbers .now)) (a .xs .now)) (toZ-ofZ (s .fits .r))
 
 pub scale-fitting-spec : {M : Type 1} → statement M
 scale-fitting-spec =

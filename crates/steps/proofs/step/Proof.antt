@@ -23,4 +23,5 @@ returns-3 c = by-halves _ _ (c .before .if1 .left)
 
 pub step-spec : {M : Type 1} → statement M
 step-spec =
-    tie.close (tie.spec returns returns-2 (λ c. search needs) (λ c. search needs) (λ c. search needs) add-result returns-3)
+    tie.close
+    (tie.spec returns returns-2 (λ c. search needs) (λ c. search needs) (λ c. search needs) add-result returns-3)

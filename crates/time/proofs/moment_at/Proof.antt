@@ -6,7 +6,16 @@ use Rattle.time.proofs.moment_at.Tie as tie
 
 returns : tie.Need-returns
 unfolding momentAt
-returns c = rw (c .octet6 .ensures, c .before .octet5 .ensures, c .before .before .octet4 .ensures, c .before .before .before .octet3 .ensures, c .before .before .before .before .year-of .ensures, c .before .before .before .before .before .octet2 .ensures, c .before .before .before .before .before .before .octet .ensures)
+returns c =
+    rw (
+      c .octet6 .ensures,
+      c .before .octet5 .ensures,
+      c .before .before .octet4 .ensures,
+      c .before .before .before .octet3 .ensures,
+      c .before .before .before .before .year-of .ensures,
+      c .before .before .before .before .before .octet2 .ensures,
+      c .before .before .before .before .before .before .octet .ensures,
+    )
 
 pub moment-at-spec : {M : Type 1} → statement M
 moment-at-spec =

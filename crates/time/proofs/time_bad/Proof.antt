@@ -6,7 +6,16 @@ use Rattle.time.proofs.time_bad.Tie as tie
 
 returns : tie.Need-returns
 unfolding timeFaults
-returns c = rw (c .moment-bad .ensures, c .before .octet6 .ensures, c .before .before .octet5 .ensures, c .before .before .before .octet4 .ensures, c .before .before .before .before .octet3 .ensures, c .before .before .before .before .before .octet2 .ensures, c .before .before .before .before .before .before .octet .ensures)
+returns c =
+    rw (
+      c .moment-bad .ensures,
+      c .before .octet6 .ensures,
+      c .before .before .octet5 .ensures,
+      c .before .before .before .octet4 .ensures,
+      c .before .before .before .before .octet3 .ensures,
+      c .before .before .before .before .before .octet2 .ensures,
+      c .before .before .before .before .before .before .octet .ensures,
+    )
 
 pub time-bad-spec : {M : Type 1} → statement M
 time-bad-spec =

@@ -7,7 +7,22 @@ use Rattle.writable.proofs.front.Tie as tie
 
 returns : tie.Need-returns
 unfolding first firstOr frontRows
-returns c = rw (c .refuse3 .ensures, c .before .refuse2 .ensures, c .before .before .time-bad .ensures, c .before .before .before .pds-bad .ensures, c .before .before .before .before .refuse .ensures, c .before .before .before .before .before .last .ensures, c .before .before .before .before .before .before .grid-bad .ensures, c .before .before .before .before .before .before .before .the-grid .ensures, c .before .before .before .before .before .before .before .before .grid-missing .ensures)
+returns c =
+    rw (
+      c .refuse3 .ensures,
+      c .before .refuse2 .ensures,
+      c .before .before .time-bad .ensures,
+      c .before .before .before .pds-bad .ensures,
+      c .before .before .before .before .refuse .ensures,
+      c .before .before .before .before .before .last .ensures,
+      c .before .before .before .before .before .before .grid-bad .ensures,
+      c .before .before .before .before .before .before .before .the-grid .ensures,
+      c .before .before .before .before .before .before .before .before .grid-missing .ensures,
+    )
 
 pub front-spec : {M : Type 1} → statement M
-front-spec = tie.close (tie.spec (λ c κs. search needs) (λ c κs. search needs) (λ c κs. search needs) (λ c κs. search needs) (λ c κs. search needs) (λ c κs. search needs) (λ c κs. search needs) (λ c κs. search needs) (λ c κs. search needs) returns)
+front-spec =
+    tie.close
+    (tie.spec (λ c κs. search needs) (λ c κs. search needs) (λ c κs. search needs) (λ c κs. search needs)
+    (λ c κs. search needs) (λ c κs. search needs) (λ c κs. search needs) (λ c κs. search needs) (λ c κs. search needs)
+    returns)

@@ -11,7 +11,8 @@ returns c = own-early _ _ _ _ _ _ _ _ _ (c .before .before .judge-early .ensures
 returns-2 : tie.Need-returns-2
 returns-2 c =
     let i = c .before .before in
-    own-last _ _ _ _ _ _ _ _ _ (i .before .before .judge-early .ensures _ refl) (i .if1 .left) _ (c .before .lists-bad .ensures) _ (c .last .ensures)
+    own-last _ _ _ _ _ _ _ _ _ (i .before .before .judge-early .ensures _ refl) (i .if1 .left) _
+    (c .before .lists-bad .ensures) _ (c .last .ensures)
 
 pub judge-spec : {M : Type 1} → statement M
 judge-spec = tie.close (tie.spec (λ c κs. search needs) returns (λ c κs. search needs) (λ c κs. search needs) returns-2)

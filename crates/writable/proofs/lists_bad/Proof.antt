@@ -16,7 +16,8 @@ returns : tie.Need-returns
 returns c =
     let b = c .before .before .before .before in
     let i = b .before .before .before in
-    lists-read _ _ _ _ _ (sym (i .before .lists-fit .ensures) ∙ i .if1 .taken) _ _ (b .before .before .grid-given .ensures) (b .before .bitmap-given .ensures)
+    lists-read _ _ _ _ _ (sym (i .before .lists-fit .ensures) ∙ i .if1 .taken) _ _
+    (b .before .before .grid-given .ensures) (b .before .bitmap-given .ensures)
     _ (b .points-bad .ensures) _ _ (c .before .before .before .has-grid .ensures) (c .before .before .choose .ensures)
     _ _ (c .before .has-bitmap .ensures) (c .choose2 .ensures)
 
@@ -24,4 +25,7 @@ returns-2 : tie.Need-returns-2
 returns-2 c = lists-short _ _ _ _ _ (sym (c .before .lists-fit .ensures) ∙ c .if1 .left)
 
 pub lists-bad-spec : {M : Type 1} → statement M
-lists-bad-spec = tie.close (tie.spec (λ c κs. search needs) (λ c κs. search needs) (λ c κs. search needs) points-bad-requires (λ c κs. search needs) (λ c κs. search needs) (λ c κs. search needs) (λ c κs. search needs) returns returns-2)
+lists-bad-spec =
+    tie.close
+    (tie.spec (λ c κs. search needs) (λ c κs. search needs) (λ c κs. search needs) points-bad-requires
+    (λ c κs. search needs) (λ c κs. search needs) (λ c κs. search needs) (λ c κs. search needs) returns returns-2)

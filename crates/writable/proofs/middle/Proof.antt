@@ -7,7 +7,15 @@ use Rattle.writable.proofs.middle.Tie as tie
 
 returns : tie.Need-returns
 unfolding first firstOr middleRows
-returns c values e = rw (c .refuse .ensures, c .before .last .ensures, c .before .before .scale-bad .ensures, c .before .before .before .stored-bad .ensures values e)
+returns c values e =
+    rw (
+      c .refuse .ensures,
+      c .before .last .ensures,
+      c .before .before .scale-bad .ensures,
+      c .before .before .before .stored-bad .ensures values e,
+    )
 
 pub middle-spec : {M : Type 1} → statement M
-middle-spec = tie.close (tie.spec (λ c κs. search needs) (λ c κs. search needs) (λ c κs. search needs) (λ c κs. search needs) returns)
+middle-spec =
+    tie.close
+    (tie.spec (λ c κs. search needs) (λ c κs. search needs) (λ c κs. search needs) (λ c κs. search needs) returns)

@@ -10,4 +10,5 @@ unfolding anyOf orAll pdsFaults
 returns c = rw (c .three .ensures)
 
 pub pds-bad-spec : {M : Type 1} → statement M
-pds-bad-spec = tie.close (tie.spec (λ c. search needs) (λ c. search needs) (λ c κs. search needs) (λ c. search needs) returns)
+pds-bad-spec =
+    tie.close (tie.spec (λ c. search needs) (λ c. search needs) (λ c κs. search needs) (λ c. search needs) returns)

@@ -1,10 +1,10 @@
--- The writer meets its table: three returns, each one law of Message over what the calls promise, and the room that what is laid down leaves for
--- the values (law room-of).
+-- The writer meets its table: three returns, each one law of Message over what the calls promise, and the room that
+-- what is laid down leaves for the values (law room-of).
 use mathlib.Core.Path.{_∙_}
 use native.Mathlib.Omega.{arith}
 use lib.ListN.{length}
-use Rattle.sections.proofs.Placing.{part-length}
-use Rattle.sections.proofs.Message.{Room, room-of, refused-early, refused-late, written}
+use Rattle.framing.proofs.Placing.{part-length}
+use Rattle.framing.proofs.Message.{Room, room-of, refused-early, refused-late, written}
 use borrow.Author.Needs.{needs}
 use Rattle.writer.proofs.write.Statement.{statement}
 use Rattle.writer.proofs.write.Tie as tie
@@ -15,12 +15,16 @@ start i = i .before .before .before .before .before .before .before .before .bef
 abbrev laid : tie.Else2 → tie.After-lay
 laid e = e .before .before .before .before
 
-room : (e : tie.Else2) → let a = start (laid e .before .before) .args in Room (a .form) (a .values .now) (a .marks .now) (laid e .lay .result) (length (a .out .now))
+room : (e : tie.Else2)
+    → let a = start (laid e .before .before) .args in Room (a .form) (a .values .now) (a .marks .now) (laid e .lay .result) (length (a .out .now))
 room e =
     let l = laid e in
     let i = l .before .before in
     let a = start i .args in
-    room-of (a .pds .now) (a .form) (a .scale) (a .number) (a .store .now) (a .values .now) (a .marks .now) (a .out .now) _ (i .before .before .before .before .before .grid-from .ensures) _ (i .before .before .before .before .the-grid .ensures) _ (i .before .before .before .points .ensures) _ (i .before .before .judge .ensures) (i .if1 .left) _ (l .lay .ensures .0) (e .if2 .left)
+    room-of (a .pds .now) (a .form) (a .scale) (a .number) (a .store .now) (a .values .now) (a .marks .now)
+    (a .out .now) _ (i .before .before .before .before .before .grid-from .ensures) _
+    (i .before .before .before .before .the-grid .ensures) _ (i .before .before .before .points .ensures) _
+    (i .before .before .judge .ensures) (i .if1 .left) _ (l .lay .ensures .0) (e .if2 .left)
 
 returns : tie.Need-returns
 returns c =
@@ -51,8 +55,17 @@ put-values-requires : tie.Need-put-values-requires
 put-values-requires c κs =
     let e = c .before .before in
     let l = laid e in
-    let q = room e in
-    (q .bits, (q .listed, (q .present, omega (arith, q .data-room, l .lay .kept, part-length (l .lay .last .1 .1 .1 .1 .1 .0) (l .lay .result .at)))))
+    let q = room e in (
+      q .bits,
+      (
+        q .listed,
+        (
+          q .present,
+          omega
+              (arith, q .data-room, l .lay .kept, part-length (l .lay .last .1 .1 .1 .1 .1 .0) (l .lay .result .at)),
+        ),
+      ),
+    )
 
 returns-3 : tie.Need-returns-3
 returns-3 c =

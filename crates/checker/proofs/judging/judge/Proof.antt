@@ -21,7 +21,8 @@ returns c =
     source-refused _ _ _ _ (a .d) _ (t .before .source-bad .ensures (a .d)) (t .if1 .taken) _ (c .refusal .ensures)
 
 -- once 18 has passed
-good : (t : tie.Else1) → let a = start (t .before) .args in WellFormed (record { numbers = a .numbers .now; marks = a .marks .now; d = a .d })
+good : (t : tie.Else1)
+    → let a = start (t .before) .args in WellFormed (record { numbers = a .numbers .now; marks = a .marks .now; d = a .d })
 good t =
     let a = start (t .before) .args in
     source-good (a .s .now) (record { number = a .number; octets = a .store .now }) (a .numbers .now) (a .marks .now) (a .d) _ (t .before .source-bad .ensures (a .d)) (t .if1 .left)
@@ -41,8 +42,10 @@ mul-from c = record { fits = omega (arith, begins (c .before .before .before .be
 any-far-requires : tie.Need-any-far-requires
 any-far-requires c κs =
     let t = c .before .before .before .before .before .before .before .before .before .before in
-    let f = start (t .before) in
-    ((c .step-of .ensures .0, (bits-most _ _ _ (f .pre .0) (f .pre .1), omega (arith, begins t))), (good t .lists, good t .most))
+    let f = start (t .before) in (
+      (c .step-of .ensures .0, (bits-most _ _ _ (f .pre .0) (f .pre .1), omega (arith, begins t))),
+      (good t .lists, good t .most),
+    )
 
 returns-2 : tie.Need-returns-2
 returns-2 c =
@@ -54,9 +57,12 @@ returns-2 c =
     let f = start (t .before) in
     let a = f .args in
     let r = toZ-ofZ {w = w32} {z = w .whole-of .result} (record { sfits = w .whole-of .ok }) ∙ w .whole-of .ensures in
-    first-of (a .s .now) _ (a .numbers .now) (a .marks .now) (a .d) _ (t .before .source-bad .ensures (a .d)) (t .if1 .left) _ (f .pre .0) (f .pre .1) _ (toZ-ofZ (f .fits .d)) _ r _ (k .before .step-of .ensures .1)
-    _ (m .marks-differ .ensures) _ (d .decimal-differs .ensures) _ (k .any-far .ensures) _ (c .before .before .before .scale-bad .ensures) _ _ _ _
-    (c .before .before .before .before .refusal2 .ensures) (c .before .before .refuse .ensures) (c .before .refuse2 .ensures) (c .refuse3 .ensures)
+    first-of (a .s .now) _ (a .numbers .now) (a .marks .now) (a .d) _ (t .before .source-bad .ensures (a .d))
+    (t .if1 .left) _ (f .pre .0) (f .pre .1) _ (toZ-ofZ (f .fits .d)) _ r _ (k .before .step-of .ensures .1)
+    _ (m .marks-differ .ensures) _ (d .decimal-differs .ensures) _ (k .any-far .ensures) _
+    (c .before .before .before .scale-bad .ensures) _ _ _ _
+    (c .before .before .before .before .refusal2 .ensures) (c .before .before .refuse .ensures)
+    (c .before .refuse2 .ensures) (c .refuse3 .ensures)
 
 pub judge-spec : {M : Type 1} → statement M
 judge-spec =

@@ -1,4 +1,5 @@
--- The points out among those passed, a block more in a turn (law far-more), with as many X passed as points are present; R is read back.
+-- The points out among those passed, a block more in a turn (law far-more), with as many X passed as points are
+-- present; R is read back.
 use mathlib.Core.Path.{_≡_, refl, sym, ap₂, _∙_}
 use native.Mathlib.Omega.{arith}
 use Prim.Native.Nat.{ℕ, _≤_, _+_, _-_, _*_}
@@ -23,7 +24,9 @@ use Rattle.checker.proofs.points.any_far.Tie as tie
 abbrev Inv-loop : tie.InvT-loop
 Inv-loop s numbers marks from n r e all chosen₀ held₀ out₀ passed₀ i₀ chosen held out passed i =
     (i ≤ length numbers)
-    × ((length chosen ≡ 256) × ((length held ≡ 256) × ((passed ≡ count (here marks) 0 i) × (out ≡ anyBelow (isOut s numbers marks from n (toZ w32 r) e) i))))
+    × ((length chosen ≡ 256)
+    × ((length held ≡ 256)
+    × ((passed ≡ count (here marks) 0 i) × (out ≡ anyBelow (isOut s numbers marks from n (toZ w32 r) e) i))))
 
 abbrev μ-loop : tie.MeasureT-loop
 μ-loop s numbers marks from n r e all chosen₀ held₀ out₀ passed₀ i₀ chosen held out passed i = length numbers - i
@@ -34,18 +37,23 @@ loop-holds c = (omega arith, (refl, (refl, (none-passed (c .before .before .befo
 abbrev start : tie.After-next-few Inv-loop μ-loop → tie.Start Inv-loop μ-loop
 start n = n .before .before .before .before .before .before
 
-inside : (n : tie.After-next-few Inv-loop μ-loop) → n .before .before .loop .i + n .next-few .result ≤ length (start n .args .numbers .now)
+inside : (n : tie.After-next-few Inv-loop μ-loop)
+    → n .before .before .loop .i + n .next-few .result ≤ length (start n .args .numbers .now)
 inside n = omega (arith, n .next-few .ensures .0)
 
-long : (n : tie.After-next-few Inv-loop μ-loop) → length (part (start n .args .numbers .now) (n .before .before .loop .i) (n .next-few .result) (inside n)) ≡ n .next-few .result
+long : (n : tie.After-next-few Inv-loop μ-loop)
+    → length (part (start n .args .numbers .now) (n .before .before .loop .i) (n .next-few .result) (inside n))
+    ≡ n .next-few .result
 long n = part-long (start n .args .numbers .now) (n .before .before .loop .i) (n .next-few .result) (inside n)
 
 -- the place of a block's first X
-room : (n : tie.After-next-few Inv-loop μ-loop) → let l = n .before .before .loop in (l .passed ≤ l .i) × (l .passed * start n .args .n ≤ pointsMost * bitsMost)
+room : (n : tie.After-next-few Inv-loop μ-loop)
+    → let l = n .before .before .loop in (l .passed ≤ l .i) × (l .passed * start n .args .n ≤ pointsMost * bitsMost)
 room n =
     let l = n .before .before .loop in
     let f = start n in
-    place-room (f .args .marks .now) (f .args .n) (l .i) _ (l .inv .1 .1 .1 .0) (omega (arith, f .pre .1 .1)) (f .pre .0 .1 .0)
+    place-room (f .args .marks .now) (f .args .n) (l .i) _ (l .inv .1 .1 .1 .0) (omega (arith, f .pre .1 .1))
+    (f .pre .0 .1 .0)
 
 mul-at : tie.Need-mul-at Inv-loop μ-loop
 mul-at c = record { fits = omega (arith, room c .1) }
@@ -61,18 +69,29 @@ block-far-requires c κs =
     let few = n .next-few .ensures .1 .0 in (
       (f .pre .0 .0, f .pre .0 .1 .0),
       (
-        λ h j k. present-all (f .args .marks .now) (length (f .args .numbers .now)) (sym (n .before .before .before .all-present .ensures) ∙ h) (l .i + j) (omega (arith, k, long n, inside n)),
+        λ h j k. present-all (f .args .marks .now) (length (f .args .numbers .now))
+            (sym (n .before .before .before .all-present .ensures) ∙ h) (l .i + j) (omega (arith, k, long n, inside n)),
         (
           omega (arith, long n, inside n, f .pre .1 .0),
-          (omega (arith, long n, few, l .inv .1 .0), (omega (arith, long n, few, l .inv .1 .1 .0), omega (arith, long n, few))),
+          (
+            omega (arith, long n, few, l .inv .1 .0),
+            (omega (arith, long n, few, l .inv .1 .1 .0), omega (arith, long n, few)),
+          ),
         ),
       ),
     )
 
-fewer : (b : tie.After-block-far Inv-loop μ-loop) → b .block-far .result .passed ≤ b .before .before .before .before .next-few .result
+fewer : (b : tie.After-block-far Inv-loop μ-loop)
+    → b .block-far .result .passed ≤ b .before .before .before .before .next-few .result
 fewer b =
     let n = b .before .before .before .before in
-    omega (arith, passed-few (start n .args .marks .now) (n .before .before .loop .i) (b .block-far .result .passed) (length (part (start n .args .numbers .now) (n .before .before .loop .i) (n .next-few .result) (inside n))) (b .block-far .ensures .0), long n)
+    omega (
+      arith,
+      passed-few (start n .args .marks .now) (n .before .before .loop .i) (b .block-far .result .passed)
+          (length (part (start n .args .numbers .now) (n .before .before .loop .i) (n .next-few .result) (inside n)))
+          (b .block-far .ensures .0),
+      long n,
+    )
 
 cast-passed : tie.Need-cast-passed Inv-loop μ-loop
 cast-passed c =
@@ -104,8 +123,10 @@ loop-again c =
         (
           k .1 .0 ∙ l .inv .1 .1 .0,
           (
-            passed-more (a .numbers .now) (a .marks .now) (l .i) (n .next-few .result) (inside n) _ _ (i .0) (b .block-far .ensures .0),
-            far-more (a .s .now) (a .numbers .now) (a .marks .now) (a .from) (a .n) _ (a .e) (l .i) (n .next-few .result) (inside n) _ (i .0) _ _ (i .1) (b .block-far .ensures .1),
+            passed-more (a .numbers .now) (a .marks .now) (l .i) (n .next-few .result) (inside n) _ _ (i .0)
+                (b .block-far .ensures .0),
+            far-more (a .s .now) (a .numbers .now) (a .marks .now) (a .from) (a .n) _ (a .e) (l .i)
+                (n .next-few .result) (inside n) _ (i .0) _ _ (i .1) (b .block-far .ensures .1),
           ),
         ),
       ),
@@ -117,7 +138,9 @@ returns c =
     let f = c .before .before .before .before .before in
     let a = f .args in
     let e : l .i ≡ length (a .numbers .now) = omega arith in
-    l .inv .1 .1 .1 .1 ∙ ap₂ (λ (x : ℕ) (y : ℤ). anyBelow (isOut (a .s .now) (a .numbers .now) (a .marks .now) (a .from) (a .n) y (a .e)) x) e (toZ-ofZ (f .fits .r))
+    l .inv .1 .1 .1 .1
+    ∙ ap₂ (λ (x : ℕ) (y : ℤ). anyBelow (isOut (a .s .now) (a .numbers .now) (a .marks .now) (a .from) (a .n) y (a .e))
+    x) e (toZ-ofZ (f .fits .r))
 
 pub any-far-spec : {M : Type 1} → statement M
 any-far-spec =

@@ -13,31 +13,44 @@ returns c =
     let t = k .before .before in
     let f = t .before .before .before .before in
     let a = f .args in
-    let h = f .pre .1 .0 (t .if1 .taken) in
-    (count-all (a .marks .now) (a .i) _ h, all-out (a .s .now) (a .numbers .now) (a .marks .now) (a .i) (a .at) (a .n) _ _ (toZ-ofZ (f .fits .r)) (a .e) h _ (k .far-at .ensures))
+    let h = f .pre .1 .0 (t .if1 .taken) in (
+      count-all (a .marks .now) (a .i) _ h,
+      all-out (a .s .now) (a .numbers .now) (a .marks .now) (a .i) (a .at) (a .n) _
+          _ (toZ-ofZ (f .fits .r)) (a .e) h _ (k .far-at .ensures),
+    )
 
 abbrev start : tie.After-gather-numbers → tie.Start
 start g = g .before .before .before .before .before .before
 
-gathered : (g : tie.After-gather-numbers) → let a = start g .args in Gathered (a .numbers .now) (a .marks .now) (a .i) (g .gather-numbers .result) (g .gather-numbers .last .1 .1 .1 .0)
+gathered : (g : tie.After-gather-numbers)
+    → let a = start g .args in Gathered (a .numbers .now) (a .marks .now) (a .i) (g .gather-numbers .result) (g .gather-numbers .last .1 .1 .1 .0)
 gathered g =
     let f = start g in
-    gathered-block (f .args .numbers .now) (f .args .marks .now) (f .args .i) _ (f .args .chosen .now) _ (f .pre .1 .1 .0) (f .pre .1 .1 .1 .0) (g .gather-numbers .ensures .0) (g .gather-numbers .ensures .1)
+    gathered-block (f .args .numbers .now) (f .args .marks .now) (f .args .i) _ (f .args .chosen .now) _
+    (f .pre .1 .1 .0) (f .pre .1 .1 .1 .0) (g .gather-numbers .ensures .0) (g .gather-numbers .ensures .1)
 
 far-at-requires-2 : tie.Need-far-at-requires-2
 far-at-requires-2 c κs =
     let g = c .before .before .before in
     let p = start g .pre in
-    let m = no-more _ _ _ _ _ (gathered g) in
-    (p .0, (omega (arith, m, p .1 .1 .1 .0, g .gather-numbers .kept .1 .1 .1 .0), (omega (arith, m, p .1 .1 .1 .1 .0), omega (arith, m, p .1 .1 .1 .1 .1))))
+    let m = no-more _ _ _ _ _ (gathered g) in (
+      p .0,
+      (
+        omega (arith, m, p .1 .1 .1 .0, g .gather-numbers .kept .1 .1 .1 .0),
+        (omega (arith, m, p .1 .1 .1 .1 .0), omega (arith, m, p .1 .1 .1 .1 .1)),
+      ),
+    )
 
 returns-2 : tie.Need-returns-2
 returns-2 c =
     let k = c .before .before in
     let g = k .before .before .before .before in
     let f = start g in
-    let a = f .args in
-    (gathered g .many, some-out (a .s .now) (a .numbers .now) (a .marks .now) (a .i) (a .at) (a .n) _ _ (toZ-ofZ (f .fits .r)) (a .e) _ _ (gathered g) _ (k .far-at2 .ensures))
+    let a = f .args in (
+      gathered g .many,
+      some-out (a .s .now) (a .numbers .now) (a .marks .now) (a .i) (a .at) (a .n) _ _
+          (toZ-ofZ (f .fits .r)) (a .e) _ _ (gathered g) _ (k .far-at2 .ensures),
+    )
 
 pub block-far-spec : {M : Type 1} → statement M
 block-far-spec =

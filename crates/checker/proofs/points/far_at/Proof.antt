@@ -10,7 +10,8 @@ returns c =
     let u = c .before .before .before .before in
     let f = u .before .before .before .before in
     let a = f .args in
-    far-held (a .s .now) (a .numbers .now) _ (a .held .now) (a .at) (a .n) (a .c) _ _ (a .e) (toZ-ofZ (f .fits .r)) (f .pre .0 .1) (f .pre .1 .1 .0) (u .unpack .ensures .1) _ (c .few-far .ensures)
+    far-held (a .s .now) (a .numbers .now) _ (a .held .now) (a .at) (a .n) (a .c) _ _ (a .e) (toZ-ofZ (f .fits .r))
+    (f .pre .0 .1) (f .pre .1 .1 .0) (u .unpack .ensures .1) _ (c .few-far .ensures)
 
 pub far-at-spec : {M : Type 1} → statement M
 far-at-spec =

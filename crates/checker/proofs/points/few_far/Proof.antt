@@ -16,7 +16,8 @@ use Rattle.checker.proofs.points.few_far.Statement.{statement}
 use Rattle.checker.proofs.points.few_far.Tie as tie
 
 abbrev Inv-loop : tie.InvT-loop
-Inv-loop numbers held c r e out₀ j₀ out j = (j ≤ c) × (out ≡ anyBelow (λ k. farFrom (getD numbers k (pos 0)) (toZ w32 r) (getD held k 0) e) j)
+Inv-loop numbers held c r e out₀ j₀ out j =
+    (j ≤ c) × (out ≡ anyBelow (λ k. farFrom (getD numbers k (pos 0)) (toZ w32 r) (getD held k 0) e) j)
 
 abbrev μ-loop : tie.MeasureT-loop
 μ-loop numbers held c r e out₀ j₀ out j = c - j
@@ -27,8 +28,11 @@ loop-holds c = (omega arith, any-none _)
 loop-again : tie.Need-loop-again Inv-loop μ-loop
 loop-again c =
     let l = c .before .before .before .before .loop in
-    let a = c .before .before .before .before .before .before .args in
-    (omega arith, few-next (a .numbers .now) (a .held .now) _ (a .e) (l .j) (c .before .before .far-arg .given) _ _ (l .inv .1) (c .far .ensures))
+    let a = c .before .before .before .before .before .before .args in (
+      omega arith,
+      few-next (a .numbers .now) (a .held .now) _ (a .e) (l .j) (c .before .before .far-arg .given) _ _
+          (l .inv .1) (c .far .ensures),
+    )
 
 returns : tie.Need-returns Inv-loop μ-loop
 returns c =
@@ -36,7 +40,9 @@ returns c =
     let f = c .before .before .before in
     let a = f .args in
     let e : l .j ≡ a .c = omega arith in
-    l .inv .1 ∙ ap₂ (λ (x : ℕ) (y : ℤ). anyBelow (λ k. farFrom (getD (a .numbers .now) k (pos 0)) y (getD (a .held .now) k 0) (a .e)) x) e (toZ-ofZ (f .fits .r))
+    l .inv .1
+    ∙ ap₂ (λ (x : ℕ) (y : ℤ). anyBelow
+    (λ k. farFrom (getD (a .numbers .now) k (pos 0)) y (getD (a .held .now) k 0) (a .e)) x) e (toZ-ofZ (f .fits .r))
 
 pub few-far-spec : {M : Type 1} → statement M
 few-far-spec =

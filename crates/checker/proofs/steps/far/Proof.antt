@@ -35,7 +35,8 @@ returns c =
     let t = c .before .before in
     let p = t .before .before in
     let f = p .before .fits in
-    out-by _ _ _ _ _ _ _ _ _ (c .before .lifted2 .ensures .0 ∙ back _ (f .v)) (t .before .lifted .ensures .0 ∙ back _ (f .r)) (p .power .ensures .0) (c .twice2 .ensures) (t .twice .ensures)
+    out-by _ _ _ _ _ _ _ _ _ (c .before .lifted2 .ensures .0 ∙ back _ (f .v))
+    (t .before .lifted .ensures .0 ∙ back _ (f .r)) (p .power .ensures .0) (c .twice2 .ensures) (t .twice .ensures)
 
 pub far-spec : {M : Type 1} → statement M
 far-spec =

@@ -8,8 +8,11 @@ use Rattle.field.proofs.lists.all_present.Tie as tie
 returns : tie.Need-returns
 returns c =
     let unpack = c .before .before .before .before .before .before in
-    let start = unpack .before .before .before .before .before in
-    (unpack-done _ _ _ _ _ _ (start .pre .0) (start .pre .1) (unpack .unpack .ensures .1), c .before .before .fill-all .ensures .1)
+    let start = unpack .before .before .before .before .before in (
+      unpack-done _ _ _ _ _ _ (start .pre .0) (start .pre .1) (unpack .unpack .ensures .1),
+      c .before .before .fill-all .ensures .1,
+    )
 
 pub all-present-spec : {M : Type 1} → statement M
-all-present-spec = tie.close (tie.spec (λ c κs. search needs) (λ c κs. search needs) (λ c. search needs) (λ c. search needs) returns)
+all-present-spec =
+    tie.close (tie.spec (λ c κs. search needs) (λ c κs. search needs) (λ c. search needs) (λ c. search needs) returns)

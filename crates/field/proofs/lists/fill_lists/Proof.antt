@@ -34,21 +34,24 @@ returns c =
     let done = c .before .before .before .before in
     let t = done .before .before .before in
     let g = t .before .before .before .before .before .before .before in
-    P.without _ _ _ _ _ _ (g .pre .1 .0) (g .pre .1 .1 .0) (t .enum-told .given .1) _ _ _ _ _ _ (done .all-present .ensures .0) (done .all-present .ensures .1)
+    P.without _ _ _ _ _ _ (g .pre .1 .0) (g .pre .1 .1 .0) (t .enum-told .given .1) _ _ _ _ _ _
+    (done .all-present .ensures .0) (done .all-present .ensures .1)
 
 returns-2 : tie.Need-returns-2
 returns-2 c =
     let done = c .before .before .before .before in
     let t = done .before .before .before .before in
     let g = t .before .before .before .before .before .before .before in
-    P.carried _ _ _ _ _ _ (g .pre .1 .0) (g .pre .1 .1 .0) (t .enum-told2 .given .1) _ _ _ _ _ (done .some-present .ensures .0) (done .some-present .ensures .1)
+    P.carried _ _ _ _ _ _ (g .pre .1 .0) (g .pre .1 .1 .0) (t .enum-told2 .given .1) _ _ _ _ _
+    (done .some-present .ensures .0) (done .some-present .ensures .1)
 
 returns-3 : tie.Need-returns-3
 returns-3 c =
     let done = c .before .before .before .before in
     let t = done .before .before .before in
     let g = t .before .before .before .before .before .before .before in
-    P.stored _ _ _ _ _ _ (g .pre .1 .0) (g .pre .1 .1 .0) _ (t .enum-told3 .given .1) _ _ _ _ _ (done .some-present2 .ensures .0) (done .some-present2 .ensures .1)
+    P.stored _ _ _ _ _ _ (g .pre .1 .0) (g .pre .1 .1 .0) _ (t .enum-told3 .given .1) _ _ _ _ _
+    (done .some-present2 .ensures .0) (done .some-present2 .ensures .1)
 
 pub fill-lists-spec : {M : Type 1} → statement M
 fill-lists-spec =

@@ -10,8 +10,11 @@ returns c =
     let spread = c .before .before .before .before .before .before in
     let unpack = spread .before .before .before .before in
     let start = unpack .before .before .before .before .before .before in
-    let p = start .pre in
-    (some-values _ _ _ _ _ _ _ _ _ (p .0) (p .1 .0) (p .1 .1 .1) (unpack .unpack .ensures .1) (spread .spread .ensures), some-marks _ _ _ _ (c .before .before .fill .ensures .1))
+    let p = start .pre in (
+      some-values _ _ _ _ _ _ _ _ _ (p .0) (p .1 .0) (p .1 .1 .1) (unpack .unpack .ensures .1)
+          (spread .spread .ensures),
+      some-marks _ _ _ _ (c .before .before .fill .ensures .1),
+    )
 
 pub some-present-spec : {M : Type 1} → statement M
 some-present-spec =

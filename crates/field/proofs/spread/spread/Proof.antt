@@ -30,7 +30,8 @@ unfolding bitsIn
 settle-requires c κs =
     let l = c .before .before .before .before .loop in
     let a = c .before .before .before .before .before .before .before .args in
-    settle-asks (a .bitmap .now) (a .n) (a .n) (l .i) (l .i - 1) (l .c) (c .bit .result) (a .values .now) (l .values) (omega arith) (omega arith) (omega arith) (c .bit .ensures .0) (l .inv .1)
+    settle-asks (a .bitmap .now) (a .n) (a .n) (l .i) (l .i - 1) (l .c) (c .bit .result) (a .values .now) (l .values)
+    (omega arith) (omega arith) (omega arith) (c .bit .ensures .0) (l .inv .1)
 
 loop-again : tie.Need-loop-again Inv-loop μ-loop Inv-loop2 μ-loop2
 unfolding bitsIn
@@ -38,8 +39,11 @@ loop-again c =
     let l = c .before .before .before .before .before .before .before .loop in
     let a = c .before .before .before .before .before .before .before .before .before .before .args in
     let k = c .before .before .before .bit in
-    let s = c .before .before .settle .ensures in
-    (omega arith, settle-turn (a .bitmap .now) (a .n) (a .n) (l .i) (l .i - 1) (l .c) (k .result) (a .values .now) (l .values) (omega arith) (omega arith) (omega arith) (k .ensures .0) (l .inv .1) _ _ (s .0) (s .1))
+    let s = c .before .before .settle .ensures in (
+      omega arith,
+      settle-turn (a .bitmap .now) (a .n) (a .n) (l .i) (l .i - 1) (l .c) (k .result) (a .values .now)
+          (l .values) (omega arith) (omega arith) (omega arith) (k .ensures .0) (l .inv .1) _ _ (s .0) (s .1),
+    )
 
 loop2-holds : tie.Need-loop2-holds Inv-loop μ-loop Inv-loop2 μ-loop2
 loop2-holds c =
@@ -62,7 +66,13 @@ loop2-again c =
     let s = c .before .before .spread-octet in
     let e : l .g * 8 ≡ (l .g - 1) * 8 + 8 = omega arith in (
       omega arith,
-      (s .ensures .0, s .kept .1 .0 ∙ l .inv .1 .1, λ v d. s .ensures .1 v (subst (Down (bitsIn 8 (a .bitmap .now)) (a .n) v (l .values)) e (l .inv .1 .2 v d))),
+      (
+        s .ensures .0,
+        s .kept .1 .0
+            ∙ l .inv .1 .1,
+        λ v d. s .ensures .1 v
+            (subst (Down (bitsIn 8 (a .bitmap .now)) (a .n) v (l .values)) e (l .inv .1 .2 v d)),
+      ),
     )
 
 returns : tie.Need-returns Inv-loop μ-loop Inv-loop2 μ-loop2
@@ -75,7 +85,8 @@ returns c =
     let z : q .g * 8 ≡ 0 = omega arith in
     let e : l .i ≡ l .i / 8 * 8 = omega arith in
     down-all f (a .n) v (q .values) (omega arith)
-    (subst (Down f (a .n) v (q .values)) z (q .inv .1 .2 v (subst (Down f (a .n) v (l .values)) e (l .inv .1 .2 v (down-none f (a .n) v)))))
+    (subst (Down f (a .n) v (q .values)) z
+    (q .inv .1 .2 v (subst (Down f (a .n) v (l .values)) e (l .inv .1 .2 v (down-none f (a .n) v)))))
 
 pub spread-spec : {M : Type 1} → statement M
 spread-spec =

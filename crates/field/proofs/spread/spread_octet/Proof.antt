@@ -1,4 +1,5 @@
--- The eight points of an octet from the last down: whole octets of absent or of present points need no bit. Each turn is the law octet-turn.
+-- The eight points of an octet from the last down: whole octets of absent or of present points need no bit. Each turn
+-- is the law octet-turn.
 use mathlib.Core.Path.{refl, sym, _∙_}
 use Rattle.bits.proofs.Runs.{bits-at}
 use Rattle.field.proofs.Spreading.{Settled, octet-asks, octet-turn, settled-octet, octet-none, octet-all}
@@ -38,7 +39,8 @@ settle-requires c κs =
     let l = c .before .before .loop in
     let a = c .before .before .before .before .before .before .before .args in
     octet-asks (a .bitmap .now) (a .n) (a .g) (l .j) (l .d) 0 (a .values .now) (l .values)
-    (omega arith) (omega arith) (omega arith) (omega arith) (octet-none (a .bitmap .now) (a .g) (l .j - 1) (omega arith) (c .before .before .before .if1 .taken)) (l .inv .1)
+    (omega arith) (omega arith) (omega arith) (omega arith)
+    (octet-none (a .bitmap .now) (a .g) (l .j - 1) (omega arith) (c .before .before .before .if1 .taken)) (l .inv .1)
 
 loop-again : tie.Need-loop-again Inv-loop μ-loop Inv-loop2 μ-loop2 Inv-loop3 μ-loop3
 loop-again c =
@@ -46,7 +48,9 @@ loop-again c =
     let a = c .before .before .before .before .before .before .before .before .before .before .args in
     let s = c .before .before .settle .ensures in
     octet-turn (a .bitmap .now) (a .n) (a .g) (l .j) (l .d) 0 (a .values .now) (l .values)
-    (omega arith) (omega arith) (omega arith) (omega arith) (octet-none (a .bitmap .now) (a .g) (l .j - 1) (omega arith) (c .before .before .before .before .before .before .if1 .taken)) (l .inv .1) _ _ (s .0) (s .1)
+    (omega arith) (omega arith) (omega arith) (omega arith)
+    (octet-none (a .bitmap .now) (a .g) (l .j - 1) (omega arith)
+    (c .before .before .before .before .before .before .if1 .taken)) (l .inv .1) _ _ (s .0) (s .1)
 
 loop2-holds : tie.Need-loop2-holds Inv-loop μ-loop Inv-loop2 μ-loop2 Inv-loop3 μ-loop3
 loop2-holds c = (omega arith, (c .before .before .before .before .before .pre .0, refl, λ v d. d))
@@ -56,7 +60,8 @@ settle-requires-2 c κs =
     let l = c .before .before .loop2 in
     let a = c .before .before .before .before .before .before .before .before .args in
     octet-asks (a .bitmap .now) (a .n) (a .g) (l .j) (l .d) 1 (a .values .now) (l .values)
-    (omega arith) (omega arith) (omega arith) (omega arith) (octet-all (a .bitmap .now) (a .g) (l .j - 1) (omega arith) (c .before .before .before .if2 .taken)) (l .inv .1)
+    (omega arith) (omega arith) (omega arith) (omega arith)
+    (octet-all (a .bitmap .now) (a .g) (l .j - 1) (omega arith) (c .before .before .before .if2 .taken)) (l .inv .1)
 
 loop2-again : tie.Need-loop2-again Inv-loop μ-loop Inv-loop2 μ-loop2 Inv-loop3 μ-loop3
 loop2-again c =
@@ -64,7 +69,9 @@ loop2-again c =
     let a = c .before .before .before .before .before .before .before .before .before .before .before .args in
     let s = c .before .before .settle2 .ensures in
     octet-turn (a .bitmap .now) (a .n) (a .g) (l .j) (l .d) 1 (a .values .now) (l .values)
-    (omega arith) (omega arith) (omega arith) (omega arith) (octet-all (a .bitmap .now) (a .g) (l .j - 1) (omega arith) (c .before .before .before .before .before .before .if2 .taken)) (l .inv .1) _ _ (s .0) (s .1)
+    (omega arith) (omega arith) (omega arith) (omega arith)
+    (octet-all (a .bitmap .now) (a .g) (l .j - 1) (omega arith)
+    (c .before .before .before .before .before .before .if2 .taken)) (l .inv .1) _ _ (s .0) (s .1)
 
 loop3-holds : tie.Need-loop3-holds Inv-loop μ-loop Inv-loop2 μ-loop2 Inv-loop3 μ-loop3
 loop3-holds c = (omega arith, (c .before .before .before .before .before .pre .0, refl, λ v d. d))
@@ -74,15 +81,19 @@ settle-requires-3 c κs =
     let l = c .before .before .before .loop3 in
     let a = c .before .before .before .before .before .before .before .before .before .args in
     octet-asks (a .bitmap .now) (a .n) (a .g) (l .j) (l .d) (c .bit .result) (a .values .now) (l .values)
-    (omega arith) (omega arith) (omega arith) (omega arith) (c .bit .ensures .0 ∙ sym (bits-at 8 (a .bitmap .now) (a .g) (l .j - 1) (omega arith))) (l .inv .1)
+    (omega arith) (omega arith) (omega arith) (omega arith)
+    (c .bit .ensures .0 ∙ sym (bits-at 8 (a .bitmap .now) (a .g) (l .j - 1) (omega arith))) (l .inv .1)
 
 loop3-again : tie.Need-loop3-again Inv-loop μ-loop Inv-loop2 μ-loop2 Inv-loop3 μ-loop3
 loop3-again c =
     let l = c .before .before .before .before .before .before .loop3 in
     let a = c .before .before .before .before .before .before .before .before .before .before .before .before .args in
     let s = c .before .before .settle3 .ensures in
-    octet-turn (a .bitmap .now) (a .n) (a .g) (l .j) (l .d) (c .before .before .before .bit .result) (a .values .now) (l .values)
-    (omega arith) (omega arith) (omega arith) (omega arith) (c .before .before .before .bit .ensures .0 ∙ sym (bits-at 8 (a .bitmap .now) (a .g) (l .j - 1) (omega arith))) (l .inv .1) _ _ (s .0) (s .1)
+    octet-turn (a .bitmap .now) (a .n) (a .g) (l .j) (l .d) (c .before .before .before .bit .result) (a .values .now)
+    (l .values)
+    (omega arith) (omega arith) (omega arith) (omega arith)
+    (c .before .before .before .bit .ensures .0 ∙ sym (bits-at 8 (a .bitmap .now) (a .g) (l .j - 1) (omega arith)))
+    (l .inv .1) _ _ (s .0) (s .1)
 
 returns : tie.Need-returns Inv-loop μ-loop Inv-loop2 μ-loop2 Inv-loop3 μ-loop3
 returns c =

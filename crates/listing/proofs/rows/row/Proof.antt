@@ -13,7 +13,8 @@ use Rattle.listing.proofs.rows.row.Statement.{statement}
 use Rattle.listing.proofs.rows.row.Tie as tie
 
 abbrev Inv-loop : tie.InvT-loop
-Inv-loop text₀ at values marks g r wide next₀ c₀ text next c = (c ≤ rowLong g r) × ((length text ≡ length text₀) × Wrote text₀ text at next (joinedTo (word values marks g r) c))
+Inv-loop text₀ at values marks g r wide next₀ c₀ text next c =
+    (c ≤ rowLong g r) × ((length text ≡ length text₀) × Wrote text₀ text at next (joinedTo (word values marks g r) c))
 
 abbrev μ-loop : tie.MeasureT-loop
 μ-loop text₀ at values marks g r wide next₀ c₀ text next c = rowLong g r - c

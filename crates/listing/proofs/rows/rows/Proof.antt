@@ -14,7 +14,9 @@ use Rattle.listing.proofs.rows.rows.Statement.{statement}
 use Rattle.listing.proofs.rows.rows.Tie as tie
 
 abbrev Inv-loop : tie.InvT-loop
-Inv-loop text₀ at values marks g high next₀ r₀ text next r = (r ≤ rowsOn g) × ((length text ≡ length text₀) × Wrote text₀ text at next (joinedTo (rowLine (markOf marks) values g) r))
+Inv-loop text₀ at values marks g high next₀ r₀ text next r =
+    (r ≤ rowsOn g)
+    × ((length text ≡ length text₀) × Wrote text₀ text at next (joinedTo (rowLine (markOf marks) values g) r))
 
 abbrev μ-loop : tie.MeasureT-loop
 μ-loop text₀ at values marks g high next₀ r₀ text next r = rowsOn g - r

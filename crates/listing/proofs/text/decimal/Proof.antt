@@ -1,10 +1,12 @@
--- The loop finds the least k for which ten to the power of k + 1 is above the number: then k + 1 digits are its decimal (Digits).
+-- The loop finds the least k for which ten to the power of k + 1 is above the number: then k + 1 digits are its decimal
+-- (Digits).
 use borrow.Author.Needs.{needs}
 use native.Mathlib.Omega.{arith}
 use Prim.Native.Nat.{suc, _-_, _^_, _≤_, _<_}
 use mathlib.Core.Path.{_≡_, refl}
 use Rattle.bits.specs.Tables.{leastBelow}
-use Rattle.listing.proofs.Digits.{short, more, enough, short-next, power-next, digits-are, decimal-done, power-is}
+use Rattle.listing.proofs.Digits.{short, more, enough, short-next, power-next, digits-are, decimal-done}
+use Rattle.listing.proofs.Digits.{power-is}
 use Rattle.listing.proofs.text.decimal.Statement.{statement}
 use Rattle.listing.proofs.text.decimal.Tie as tie
 
@@ -18,7 +20,8 @@ loop-holds : tie.Need-loop-holds Inv-loop μ-loop
 unfolding leastBelow
 loop-holds c = (refl, (omega arith, refl))
 
-test : (c : tie.In-loop Inv-loop μ-loop) → (c .before .loop .k < 9) × (c .before .loop .power ≤ c .before .before .before .args .n)
+test : (c : tie.In-loop Inv-loop μ-loop)
+    → (c .before .loop .k < 9) × (c .before .loop .power ≤ c .before .before .before .args .n)
 test c = more _ _ _ (c .loop-test .taken)
 
 mul-power : tie.Need-mul-power Inv-loop μ-loop
@@ -43,7 +46,9 @@ returns : tie.Need-returns Inv-loop μ-loop
 returns c =
     let n = c .before .before in
     let l = n .before .before .before .loop in
-    decimal-done _ _ _ _ _ _ (digits-are _ _ _ (l .inv .0) (l .inv .1 .1) (l .inv .1 .0) (enough _ _ _ (n .before .before .loop-test .left))) (n .numeral .ensures)
+    decimal-done _ _ _ _ _ _
+    (digits-are _ _ _ (l .inv .0) (l .inv .1 .1) (l .inv .1 .0) (enough _ _ _ (n .before .before .loop-test .left)))
+    (n .numeral .ensures)
 
 pub decimal-spec : {M : Type 1} → statement M
 decimal-spec =

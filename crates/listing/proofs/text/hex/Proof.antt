@@ -11,8 +11,11 @@ letter-requires c κs = omega (arith, length-numeral 16 8 (c .before .before .be
 
 returns : tie.Need-returns
 returns c =
-    let m = length-numeral 16 8 (c .before .before .before .before .before .before .before .before .before .args .n) in
-    (wrote-next (hex-done _ _ _ _ _ (c .before .before .before .before .before .before .numeral .ensures)) (c .before .before .letter .ensures) (omega arith), omega arith)
+    let m = length-numeral 16 8 (c .before .before .before .before .before .before .before .before .before .args .n) in (
+      wrote-next (hex-done _ _ _ _ _ (c .before .before .before .before .before .before .numeral .ensures))
+          (c .before .before .letter .ensures) (omega arith),
+      omega arith,
+    )
 
 pub hex-spec : {M : Type 1} → statement M
 hex-spec = tie.close (tie.spec (λ c κs. search needs) letter-requires (λ c. search needs) returns)

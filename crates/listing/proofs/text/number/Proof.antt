@@ -11,8 +11,11 @@ letter-requires c κs = omega (arith, decimal-most (c .before .before .before .b
 
 returns : tie.Need-returns
 returns c =
-    let m = decimal-most (c .before .before .before .before .before .before .before .before .before .args .n) in
-    (wrote-next (c .before .before .before .before .before .before .decimal .ensures) (c .before .before .letter .ensures) (omega arith), omega arith)
+    let m = decimal-most (c .before .before .before .before .before .before .before .before .before .args .n) in (
+      wrote-next (c .before .before .before .before .before .before .decimal .ensures)
+          (c .before .before .letter .ensures) (omega arith),
+      omega arith,
+    )
 
 pub number-spec : {M : Type 1} → statement M
 number-spec = tie.close (tie.spec (λ c κs. search needs) letter-requires (λ c. search needs) returns)

@@ -1,4 +1,5 @@
--- The digits written so far are the first j of the numeral, and the weight is that of the digits that are left (Digits).
+-- The digits written so far are the first j of the numeral, and the weight is that of the digits that are left
+-- (Digits).
 use borrow.Author.Needs.{needs}
 use native.Mathlib.Omega.{arith}
 use Prim.Native.Nat.{ℕ, _+_, _-_, _^_, _≤_}
@@ -13,14 +14,20 @@ use Rattle.listing.proofs.text.numeral.Statement.{statement}
 use Rattle.listing.proofs.text.numeral.Tie as tie
 
 abbrev Inv-loop : tie.InvT-loop
-Inv-loop text₀ at base c power n weight₀ j₀ text weight j = (weight ≡ base ^ (c - j)) × ((j ≤ c) × ((length text ≡ length text₀) × Wrote text₀ text at (at + j) (tab (place base c n) j)))
+Inv-loop text₀ at base c power n weight₀ j₀ text weight j =
+    (weight ≡ base ^ (c - j))
+    × ((j ≤ c) × ((length text ≡ length text₀) × Wrote text₀ text at (at + j) (tab (place base c n) j)))
 
 abbrev μ-loop : tie.MeasureT-loop
 μ-loop text₀ at base c power n weight₀ j₀ text weight j = c - j
 
 loop-holds : tie.Need-loop-holds Inv-loop μ-loop
 unfolding tab
-loop-holds c = (c .before .pre .1 .1 .0 ∙ ap (λ (x : ℕ). c .before .args .base ^ x) (sym (sub-zero (c .before .args .c))), (omega arith, (refl, wrote-start _ _)))
+loop-holds c = (
+  c .before .pre .1 .1 .0
+      ∙ ap (λ (x : ℕ). c .before .args .base ^ x) (sym (sub-zero (c .before .args .c))),
+  (omega arith, (refl, wrote-start _ _)),
+)
 
 div-digit : tie.Need-div-digit Inv-loop μ-loop
 div-digit c = weight-pos _ _ _ _ (omega arith) (omega arith) (c .before .loop .inv .0)
@@ -36,7 +43,8 @@ loop-again c =
         omega arith,
         (
           simp length-set (l .inv .1 .1 .0),
-          digit-turn _ _ _ _ _ _ _ _ _ (omega arith) (omega arith) (l .inv .0) (omega arith) (l .inv .1 .1 .1) (c .digit .ensures),
+          digit-turn _ _ _ _ _ _ _ _ _ (omega arith) (omega arith) (l .inv .0) (omega arith) (l .inv .1 .1 .1)
+              (c .digit .ensures),
         ),
       ),
     )

@@ -11,7 +11,8 @@ use Rattle.listing.proofs.text.word.Statement.{statement}
 use Rattle.listing.proofs.text.word.Tie as tie
 
 abbrev Inv-loop : tie.InvT-loop
-Inv-loop text₀ at w i₀ text i = (i ≤ length w) × ((length text ≡ length text₀) × Wrote text₀ text at (at + i) (tab (λ k. getD w k 0) i))
+Inv-loop text₀ at w i₀ text i =
+    (i ≤ length w) × ((length text ≡ length text₀) × Wrote text₀ text at (at + i) (tab (λ k. getD w k 0) i))
 
 abbrev μ-loop : tie.MeasureT-loop
 μ-loop text₀ at w i₀ text i = length w - i

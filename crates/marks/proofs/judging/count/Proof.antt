@@ -34,14 +34,20 @@ add-result : tie.Need-add-result Inv-loop μ-loop
 add-result c =
     let l = c .before .before .loop in
     let s = c .before .before .before .before .before .args .marks .now in
-    omega (arith, count-few s 0 (l .i), count-few s (l .i) (c .before .before .before .within .result - l .i), c .some-present2 .ensures)
+    omega (
+      arith,
+      count-few s 0 (l .i),
+      count-few s (l .i) (c .before .before .before .within .result - l .i),
+      c .some-present2 .ensures,
+    )
 
 returns : tie.Need-returns Inv-loop μ-loop
 returns c =
     let l = c .before .before .loop in
     let a = c .before .before .before .before .before .args in
     let r = c .before .before .before .within .result - l .i in
-    count-more (a .marks .now) (l .i) r (l .m) _ (l .inv .1) (c .some-present2 .ensures) ∙ count-all (a .marks .now) (a .n) (l .i) r (omega arith)
+    count-more (a .marks .now) (l .i) r (l .m) _ (l .inv .1) (c .some-present2 .ensures)
+    ∙ count-all (a .marks .now) (a .n) (l .i) r (omega arith)
 
 pub count-spec : {M : Type 1} → statement M
 count-spec =

@@ -14,7 +14,8 @@ use Rattle.marks.proofs.judging.odd.Statement.{statement}
 use Rattle.marks.proofs.judging.odd.Tie as tie
 
 abbrev Inv-loop : tie.InvT-loop
-Inv-loop marks n end all₀ i₀ all i = (i ≤ end) × (ltb all (2 ^ 1) ≡ not (anyBelow (λ k. leb (2 ^ 1) (markOf marks k)) i))
+Inv-loop marks n end all₀ i₀ all i =
+    (i ≤ end) × (ltb all (2 ^ 1) ≡ not (anyBelow (λ k. leb (2 ^ 1) (markOf marks k)) i))
 
 abbrev μ-loop : tie.MeasureT-loop
 μ-loop marks n end all₀ i₀ all i = end - i

@@ -23,7 +23,12 @@ add-m : tie.Need-add-m Inv-loop μ-loop
 add-m c =
     let l = c .before .before .before .loop in
     let a = c .before .before .before .before .before .args in
-    omega (arith, count-few (a .marks .now) (a .p) (l .i), one-few _ (getD (a .marks .now) (a .p + l .i) 0) (c .one .ensures))
+    omega (
+      arith,
+      count-few (a .marks .now) (a .p) (l .i),
+      one-few _ (getD (a .marks .now) (a .p + l .i) 0)
+          (c .one .ensures),
+    )
 
 loop-again : tie.Need-loop-again Inv-loop μ-loop
 loop-again c =

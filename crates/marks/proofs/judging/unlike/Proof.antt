@@ -40,8 +40,11 @@ loop2-less c = left-less _ _ (c .before .before .loop2-test .taken)
 loop2-again : tie.Need-loop2-again Inv-loop μ-loop Inv-loop2 μ-loop2
 loop2-again c =
     let l = c .before .before .before .loop2 in
-    let e = c .at2 .ensures ∙ ap (λ (x : ℕ). getD (c .before .before .before .before .before .before .before .before .before .before .args .marks .now) x 0) (add-zero (l .i)) in
-    (step-in _ _ (c .before .before .loop2-test .taken), unlike-more _ _ _ (l .i) _ _ _ (l .inv .1) (c .before .at .ensures) e)
+    let e = c .at2 .ensures ∙ ap (λ (x : ℕ). getD (c .before .before .before .before .before .before .before .before .before .before .args .marks .now) x 0) (add-zero (l .i)) in (
+      step-in _ _ (c .before .before .loop2-test .taken),
+      unlike-more _ _ _ (l .i) _ _ _ (l .inv .1)
+          (c .before .at .ensures) e,
+    )
 
 returns : tie.Need-returns Inv-loop μ-loop Inv-loop2 μ-loop2
 returns c =

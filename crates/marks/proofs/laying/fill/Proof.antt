@@ -11,7 +11,8 @@ returns c =
     let a = c .before .before .before .before .before .before .before .before .before .before .before .before .args in
     let f = G (a .map .now) (a .k) in
     fill-done f (a .marks .now) _ (a .n) (omega arith)
-    (c .before .before .fill-same .ensures f (a .marks .now) (λ i h l. bit-past (a .map .now) (a .k) i (omega arith)) (omega arith) (c .before .before .before .before .before .before .fill-inside .ensures))
+    (c .before .before .fill-same .ensures f (a .marks .now) (λ i h l. bit-past (a .map .now) (a .k) i (omega arith))
+    (omega arith) (c .before .before .before .before .before .before .fill-inside .ensures))
 
 returns-2 : tie.Need-returns-2
 returns-2 c = let a = c .before .before .before .args in fill-short (G (a .map .now) (a .k)) (a .marks .now) (a .n) (omega arith)

@@ -12,7 +12,8 @@ returns : tie.Need-returns
 unfolding tab
 returns c =
     let a = c .before .before .before .before .before .before .args in
-    fill-done (λ _. 1) (a .marks .now) _ (a .n) (omega arith) (c .before .before .fill-same .ensures (λ _. 1) (a .marks .now) (λ i h l. refl) (omega arith) refl)
+    fill-done (λ _. 1) (a .marks .now) _ (a .n) (omega arith)
+    (c .before .before .fill-same .ensures (λ _. 1) (a .marks .now) (λ i h l. refl) (omega arith) refl)
 
 returns-2 : tie.Need-returns-2
 returns-2 c = let a = c .before .before .args in fill-short (λ _. 1) (a .marks .now) (a .n) (omega arith)

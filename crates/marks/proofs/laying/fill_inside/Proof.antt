@@ -15,13 +15,15 @@ use Rattle.marks.proofs.laying.fill_inside.Statement.{statement}
 use Rattle.marks.proofs.laying.fill_inside.Tie as tie
 
 abbrev Inv-loop2 : tie.InvT-loop2
-Inv-loop2 map k m marks₀ g b j₀ marks j = (j ≤ 8) × (length marks ≡ length marks₀) × Marked (G map k) marks₀ (g * 8) marks (g * 8 + j) m
+Inv-loop2 map k m marks₀ g b j₀ marks j =
+    (j ≤ 8) × (length marks ≡ length marks₀) × Marked (G map k) marks₀ (g * 8) marks (g * 8 + j) m
 
 abbrev μ-loop2 : tie.MeasureT-loop2
 μ-loop2 map k m marks₀ g b j₀ marks j = 8 - j
 
 abbrev Inv-loop : tie.InvT-loop
-Inv-loop map k m marks₀ g₀ marks g = (g ≤ m / 8) × (length marks ≡ length marks₀) × (marks ≡ tab (G map k) (g * 8) ++ drop (g * 8) marks₀)
+Inv-loop map k m marks₀ g₀ marks g =
+    (g ≤ m / 8) × (length marks ≡ length marks₀) × (marks ≡ tab (G map k) (g * 8) ++ drop (g * 8) marks₀)
 
 abbrev μ-loop : tie.MeasureT-loop
 μ-loop map k m marks₀ g₀ marks g = m / 8 - g
@@ -43,8 +45,12 @@ shared-slice-read-b c = search needs
 loop2-holds : tie.Need-loop2-holds Inv-loop2 μ-loop2 Inv-loop μ-loop Inv-loop3 μ-loop3
 loop2-holds c =
     let l = c .before .before .loop in
-    let a = c .before .before .before .args in
-    (omega arith, refl, marks-same (G (a .map .now) (a .k)) (l .marks) (l .marks) (l .g * 8) (l .g * 8) (l .g * 8 + 0) (a .m) (sym (add-zero (l .g * 8))) (λ d h e. e))
+    let a = c .before .before .before .args in (
+      omega arith,
+      refl,
+      marks-same (G (a .map .now) (a .k)) (l .marks) (l .marks) (l .g * 8) (l .g * 8) (l .g * 8 + 0)
+          (a .m) (sym (add-zero (l .g * 8))) (λ d h e. e),
+    )
 
 loop2-again : tie.Need-loop2-again Inv-loop2 μ-loop2 Inv-loop μ-loop Inv-loop3 μ-loop3
 loop2-again c =
@@ -56,7 +62,8 @@ loop2-again c =
       omega arith,
       simp length-set (q .inv .1),
       marks-same f (l .marks) _ (l .g * 8) _ _ (a .m) r
-          (mark-turn f (l .marks) (q .marks) (l .g * 8) (l .g * 8 + q .j) (a .m) _ (omega arith) (octet-bit (a .map .now) (a .k) (l .g) (q .j) (omega arith)) (q .inv .2)),
+          (mark-turn f (l .marks) (q .marks) (l .g * 8) (l .g * 8 + q .j) (a .m) _ (omega arith)
+          (octet-bit (a .map .now) (a .k) (l .g) (q .j) (omega arith)) (q .inv .2)),
     )
 
 loop-again : tie.Need-loop-again Inv-loop2 μ-loop2 Inv-loop μ-loop Inv-loop3 μ-loop3
@@ -67,7 +74,8 @@ loop-again c =
     let e : l .g * 8 + q .j ≡ (l .g + 1) * 8 = omega arith in (
       omega arith,
       q .inv .1 ∙ l .inv .1,
-      marks-same (G (a .map .now) (a .k)) (l .marks) (q .marks) (l .g * 8) _ _ (a .m) e (q .inv .2) (a .marks .now) (omega arith) (l .inv .2),
+      marks-same (G (a .map .now) (a .k)) (l .marks) (q .marks) (l .g * 8) _ _ (a .m) e (q .inv .2) (a .marks .now)
+          (omega arith) (l .inv .2),
     )
 
 loop3-holds : tie.Need-loop3-holds Inv-loop2 μ-loop2 Inv-loop μ-loop Inv-loop3 μ-loop3
@@ -88,7 +96,8 @@ loop3-again c =
     let a = c .before .before .before .before .before .args in (
       omega arith,
       simp length-set (q .inv .1),
-      mark-turn (G (a .map .now) (a .k)) (l .marks) (q .marks) (l .g * 8) (q .i) (a .m) _ (omega arith) (map-bit (a .map .now) (a .k) (q .i)) (q .inv .2),
+      mark-turn (G (a .map .now) (a .k)) (l .marks) (q .marks) (l .g * 8) (q .i) (a .m) _ (omega arith)
+          (map-bit (a .map .now) (a .k) (q .i)) (q .inv .2),
     )
 
 returns : tie.Need-returns Inv-loop2 μ-loop2 Inv-loop μ-loop Inv-loop3 μ-loop3
@@ -96,7 +105,8 @@ returns c =
     let q = c .before .loop3 in
     let l = c .before .before .before .loop in
     let a = c .before .before .before .before .args in
-    marks-same (G (a .map .now) (a .k)) (l .marks) (q .marks) (l .g * 8) (q .i) (a .m) (a .m) (omega arith) (q .inv .2) (a .marks .now) (omega arith) (l .inv .2)
+    marks-same (G (a .map .now) (a .k)) (l .marks) (q .marks) (l .g * 8) (q .i) (a .m) (a .m) (omega arith) (q .inv .2)
+    (a .marks .now) (omega arith) (l .inv .2)
 
 pub fill-inside-spec : {M : Type 1} → statement M
 fill-inside-spec =

@@ -23,8 +23,13 @@ loop-holds c = (omega arith, omega arith, refl, λ f h d k e. e)
 loop-again : tie.Need-loop-again Inv-loop μ-loop
 loop-again c =
     let l = c .before .loop in
-    let a = c .before .before .args in
-    (omega arith, omega arith, simp length-set (l .inv .2), λ f h. mark-turn f (a .marks .now) (l .marks) (a .from) (l .i) (a .n) (a .x) (omega arith) (h (l .i) (omega arith) (omega arith)) (l .inv .3 f h))
+    let a = c .before .before .args in (
+      omega arith,
+      omega arith,
+      simp length-set (l .inv .2),
+      λ f h. mark-turn f (a .marks .now) (l .marks) (a .from)
+          (l .i) (a .n) (a .x) (omega arith) (h (l .i) (omega arith) (omega arith)) (l .inv .3 f h),
+    )
 
 returns : tie.Need-returns Inv-loop μ-loop
 returns c f d h =

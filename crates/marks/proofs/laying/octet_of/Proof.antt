@@ -15,7 +15,8 @@ abbrev μ-loop : tie.MeasureT-loop
 μ-loop marks p c x₀ j₀ x j = c - j
 
 abbrev Inv-loop2 : tie.InvT-loop2
-Inv-loop2 marks p c x₀ j₀ x j = (c ≤ j) × (j ≤ 8) × ((m : ℕ) → p + c ≤ m → (c < 8 → m ≡ p + c) → x ≡ run (F marks m) p j)
+Inv-loop2 marks p c x₀ j₀ x j =
+    (c ≤ j) × (j ≤ 8) × ((m : ℕ) → p + c ≤ m → (c < 8 → m ≡ p + c) → x ≡ run (F marks m) p j)
 
 abbrev μ-loop2 : tie.MeasureT-loop2
 μ-loop2 marks p c x₀ j₀ x j = 8 - j
@@ -56,8 +57,12 @@ mul-x-2 c =
 loop2-again : tie.Need-loop2-again Inv-loop μ-loop Inv-loop2 μ-loop2
 loop2-again c =
     let l = c .before .loop2 in
-    let a = c .before .before .before .before .args in
-    (omega arith, omega arith, λ m h e. octet-end (a .marks .now) m (a .p) (l .j) (l .x) (omega (arith, e (omega arith))) (l .inv .2 m h e))
+    let a = c .before .before .before .before .args in (
+      omega arith,
+      omega arith,
+      λ m h e. octet-end (a .marks .now) m (a .p) (l .j) (l .x)
+          (omega (arith, e (omega arith))) (l .inv .2 m h e),
+    )
 
 returns : tie.Need-returns Inv-loop μ-loop Inv-loop2 μ-loop2
 returns c m h e =

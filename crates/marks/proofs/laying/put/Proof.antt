@@ -10,7 +10,8 @@ returns : tie.Need-returns
 returns c =
     let p = c .before .before in
     let a = c .before .before .before .before .before .before .before .before .before .args in
-    put-done (a .marks .now) (a .out .now) _ (a .n) _ (a .k) (a .c) (p .before .before .within .ensures) (omega arith) (p .put-inside .ensures)
+    put-done (a .marks .now) (a .out .now) _ (a .n) _ (a .k) (a .c) (p .before .before .within .ensures) (omega arith)
+    (p .put-inside .ensures)
 
 returns-2 : tie.Need-returns-2
 returns-2 c = let a = c .before .before .before .before .args in put-short (a .marks .now) (a .out .now) (a .n) (a .k) (a .c) (omega arith)
@@ -21,4 +22,5 @@ returns-3 c = let a = c .before .before .before .args in put-short (a .marks .no
 pub put-spec : {M : Type 1} → statement M
 put-spec =
     tie.close
-    (tie.spec (λ c. search needs) (λ c κs. search needs) (λ c κs. search needs) (λ c. search needs) returns returns-2 returns-3)
+    (tie.spec (λ c. search needs) (λ c κs. search needs) (λ c κs. search needs) (λ c. search needs) returns returns-2
+    returns-3)

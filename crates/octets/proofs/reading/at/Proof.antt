@@ -13,4 +13,5 @@ returns-3 c = let a = c .before .args in past (a .s .now) (a .p) (a .j) (omega a
 
 pub at-spec : {M : Type 1} → statement M
 at-spec =
-    tie.close (tie.spec (λ c. search needs) (λ c. search needs) (λ c. search needs) (λ c. search needs) returns-2 returns-3)
+    tie.close
+    (tie.spec (λ c. search needs) (λ c. search needs) (λ c. search needs) (λ c. search needs) returns-2 returns-3)

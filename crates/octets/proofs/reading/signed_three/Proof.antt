@@ -13,7 +13,10 @@ signed-requires c κs = let h : c .three .result < 16777216 = three-lt _ _ _ (c 
 
 returns : tie.Need-returns
 unfolding signed
-returns c = c .plain .ensures ∙ ap plain (back 8388608 _ _ _ (c .before .before .three .ensures) (c .before .signed .ensures) (c .before .signed .ok))
+returns c =
+    c .plain .ensures
+    ∙ ap plain
+    (back 8388608 _ _ _ (c .before .before .three .ensures) (c .before .signed .ensures) (c .before .signed .ok))
 
 pub signed-three-spec : {M : Type 1} → statement M
 signed-three-spec = tie.close (tie.spec (λ c κs. search needs) signed-requires (λ c κs. search needs) returns)

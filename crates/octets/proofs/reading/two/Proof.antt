@@ -6,7 +6,9 @@ use Rattle.octets.proofs.reading.two.Statement.{statement}
 use Rattle.octets.proofs.reading.two.Tie as tie
 
 returns : tie.Need-returns
-returns c = L.two _ _ _ _ _ _ (c .before .before .offset .ensures) (c .before .at .ensures) (c .at2 .ensures) (omega arith) (omega arith)
+returns c =
+    L.two _ _ _ _ _ _ (c .before .before .offset .ensures) (c .before .at .ensures) (c .at2 .ensures) (omega arith)
+    (omega arith)
 
 pub two-spec : {M : Type 1} → statement M
 two-spec =

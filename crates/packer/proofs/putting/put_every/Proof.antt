@@ -35,13 +35,16 @@ steps s = stepOf (s .args .numbers .now) (ref s) (s .args .e)
 wide : (s : tie.Start Inv-loop μ-loop) → Wide (s .args .bits) (tab (steps s) (length (s .args .numbers .now)))
 wide s =
     let a = s .args in
-    subst (λ (x : ℤ). Wide (a .bits) (tab (stepOf (a .numbers .now) x (a .e)) (length (a .numbers .now)))) (sym (toZ-ofZ (s .fits .r))) (s .pre .1 .0)
+    subst (λ (x : ℤ). Wide (a .bits) (tab (stepOf (a .numbers .now) x (a .e)) (length (a .numbers .now))))
+    (sym (toZ-ofZ (s .fits .r))) (s .pre .1 .0)
 
-room : (s : tie.Start Inv-loop μ-loop) → octetsFor (length (s .args .numbers .now) * s .args .bits) ≤ length (s .args .out .now)
+room : (s : tie.Start Inv-loop μ-loop)
+    → octetsFor (length (s .args .numbers .now) * s .args .bits) ≤ length (s .args .out .now)
 room s = omega (arith, s .pre .1 .1 .1)
 
 -- a block more
-after : (k : tie.After-put-last Inv-loop μ-loop) → let q = k .before .before .before .before .before in let i = q .before .before .before in let l = i .before .loop in let s = i .before .before .before .before in let a = s .args in
+after : (k : tie.After-put-last Inv-loop μ-loop)
+    → let q = k .before .before .before .before .before in let i = q .before .before .before in let l = i .before .loop in let s = i .before .before .before .before in let a = s .args in
     Passed (a .bits) (tab (steps s) (l .i + 256)) (a .out .now) (record { place = l .place + a .bits * 32; held = 0 }) (q .scale .last .1 .1 .1 .0) (k .put-last .last .1 .1 .1 .0)
 after k =
     let q = k .before .before .before .before .before in
@@ -51,14 +54,20 @@ after k =
     let a = s .args in
     let x = q .scale .last .1 .1 .1 .0 in
     let z : length x ≡ 512 = q .scale .kept .1 .1 .1 .0 ∙ l .inv .1 .size in
-    every-more (a .bits) (steps s) (length (a .numbers .now)) (s .pre .0) (wide s) (a .out .now) (room s) (l .i) (l .place) (l .held) x (l .out) _ (omega (arith, i .loop-test .taken, l .inv .0)) (l .inv .1)
-    z (steps-part (a .numbers .now) (ref s) (a .e) (l .i) 256 (l .i + 256 - l .i) (l .held) x (omega arith) (omega (arith, i .loop-test .taken, l .inv .0)) (omega (arith, l .inv .1 .size)) (q .scale .ensures)) (k .put-last .ensures .1)
+    every-more (a .bits) (steps s) (length (a .numbers .now)) (s .pre .0) (wide s) (a .out .now) (room s) (l .i)
+    (l .place) (l .held) x (l .out) _ (omega (arith, i .loop-test .taken, l .inv .0)) (l .inv .1)
+    z (steps-part (a .numbers .now) (ref s) (a .e) (l .i) 256 (l .i + 256 - l .i) (l .held) x (omega arith)
+    (omega (arith, i .loop-test .taken, l .inv .0)) (omega (arith, l .inv .1 .size)) (q .scale .ensures))
+    (k .put-last .ensures .1)
 
 loop-holds : tie.Need-loop-holds Inv-loop μ-loop
 loop-holds c =
     let s = c .before .before in
-    let a = s .args in
-    (omega arith, every-none (a .bits) (steps s) (length (a .numbers .now)) (s .pre .0) (wide s) (a .out .now) (room s) (a .held .now) (s .pre .1 .1 .0))
+    let a = s .args in (
+      omega arith,
+      every-none (a .bits) (steps s) (length (a .numbers .now)) (s .pre .0) (wide s) (a .out .now) (room s)
+          (a .held .now) (s .pre .1 .1 .0),
+    )
 
 add-place : tie.Need-add-place Inv-loop μ-loop
 add-place c =
@@ -87,9 +96,13 @@ returns c =
     let N = length (a .numbers .now) in
     let x = q .scale2 .last .1 .1 .1 .0 in
     let z : length x ≡ 512 = q .scale2 .kept .1 .1 .1 .0 ∙ l .inv .1 .size in
-    every-last (a .bits) (steps s) N (s .pre .0) (wide s) (a .out .now) (room s) (l .i) (N - l .i) (l .place) (l .held) x (l .out) _ (omega (arith, l .inv .0)) (omega (arith, h .loop-test .left)) (l .inv .1)
-    z (steps-part (a .numbers .now) (ref s) (a .e) (l .i) (N - l .i) (N - l .i) (l .held) x refl (omega (arith, l .inv .0)) (omega (arith, l .inv .1 .size, h .loop-test .left)) (q .scale2 .ensures)) (k .put-last2 .ensures .1)
-    ∙ ap (λ (y : ℤ). packedInto (a .bits) (tab (stepOf (a .numbers .now) y (a .e)) N) (a .out .now)) (toZ-ofZ (s .fits .r))
+    every-last (a .bits) (steps s) N (s .pre .0) (wide s) (a .out .now) (room s) (l .i) (N - l .i) (l .place) (l .held)
+    x (l .out) _ (omega (arith, l .inv .0)) (omega (arith, h .loop-test .left)) (l .inv .1)
+    z (steps-part (a .numbers .now) (ref s) (a .e) (l .i) (N - l .i) (N - l .i) (l .held) x refl
+    (omega (arith, l .inv .0)) (omega (arith, l .inv .1 .size, h .loop-test .left)) (q .scale2 .ensures))
+    (k .put-last2 .ensures .1)
+    ∙ ap (λ (y : ℤ). packedInto (a .bits) (tab (stepOf (a .numbers .now) y (a .e)) N) (a .out .now))
+    (toZ-ofZ (s .fits .r))
 
 pub put-every-spec : {M : Type 1} → statement M
 put-every-spec =

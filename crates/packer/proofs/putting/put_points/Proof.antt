@@ -26,7 +26,9 @@ use Rattle.packer.proofs.putting.put_points.Tie as tie
 
 abbrev Inv-loop : tie.InvT-loop
 Inv-loop numbers marks r e bits xs₀ held₀ out₀ progress₀ i₀ xs held out progress i =
-    (i ≤ length numbers) × (length xs ≡ 256) × (progress .held < 256) × Passed bits (gathered (markOf marks) (valueOf (scaledFrom numbers marks (toZ w32 r) e)) i) out₀ progress held out
+    (i ≤ length numbers) × (length xs ≡ 256) × (progress .held < 256)
+    × Passed bits (gathered (markOf marks) (valueOf (scaledFrom numbers marks (toZ w32 r) e)) i) out₀ progress held
+    out
 
 abbrev μ-loop : tie.MeasureT-loop
 μ-loop numbers marks r e bits xs₀ held₀ out₀ progress₀ i₀ xs held out progress i = length numbers - i
@@ -38,21 +40,29 @@ start b = b .before .before .before .before .before .before .before
 abbrev ref : tie.Start Inv-loop μ-loop → ℤ
 ref s = toZ w32 (ofZ w32 (s .args .r))
 
-lists : (s : tie.Start Inv-loop μ-loop) → let a = s .args in Listed (scaledFrom (a .numbers .now) (a .marks .now) (ref s) (a .e)) (a .marks .now) (a .bits)
+lists : (s : tie.Start Inv-loop μ-loop)
+    → let a = s .args in Listed (scaledFrom (a .numbers .now) (a .marks .now) (ref s) (a .e)) (a .marks .now) (a .bits)
 lists s = let a = s .args in listed-back (a .numbers .now) (a .marks .now) (a .r) (a .e) (s .fits .r .sfits) (a .bits) (s .pre .1 .0)
 
 long : (s : tie.Start Inv-loop μ-loop) → length (s .args .marks .now) ≡ marksLong (length (s .args .numbers .now))
 long s = let a = s .args in lists s .same ∙ ap marksLong (length-scaled (a .numbers .now) (a .marks .now) (ref s) (a .e))
 
 -- the points of the block
-points : (b : tie.After-block-of Inv-loop μ-loop) → Next (length (start b .args .numbers .now) - b .before .before .loop .i) (b .block-of .result)
+points : (b : tie.After-block-of Inv-loop μ-loop)
+    → Next (length (start b .args .numbers .now) - b .before .before .loop .i) (b .block-of .result)
 points b = next _ _ (b .block-of .ensures)
 
 loop-holds : tie.Need-loop-holds Inv-loop μ-loop
 loop-holds c =
     let s = c .before .before .before .before in
-    let a = s .args in
-    (omega arith, s .pre .1 .1 .0 .0, omega arith, passed-none (a .bits) (a .marks .now) (valueOf (scaledFrom (a .numbers .now) (a .marks .now) (ref s) (a .e))) (a .out .now) (a .held .now) (s .pre .1 .1 .0 .1))
+    let a = s .args in (
+      omega arith,
+      s .pre .1 .1 .0 .0,
+      omega arith,
+      passed-none (a .bits) (a .marks .now)
+          (valueOf (scaledFrom (a .numbers .now) (a .marks .now) (ref s) (a .e))) (a .out .now) (a .held .now)
+          (s .pre .1 .1 .0 .1),
+    )
 
 add-scale : tie.Need-add-scale Inv-loop μ-loop
 add-scale c = omega (arith, points c .there)
@@ -79,7 +89,8 @@ slice-aggregate-put-block : tie.Need-slice-aggregate-put-block Inv-loop μ-loop
 slice-aggregate-put-block c =
     let q = c .before .before .before in
     let b = q .before .before .before in
-    sym (length-take-le (b .block-of .result) (q .scale .last .1 .1 .1 .0) (omega (arith, points b .most, q .scale .kept .1 .1 .1 .0, b .before .before .loop .inv .1)))
+    sym (length-take-le (b .block-of .result) (q .scale .last .1 .1 .1 .0)
+    (omega (arith, points b .most, q .scale .kept .1 .1 .1 .0, b .before .before .loop .inv .1)))
 
 add-i : tie.Need-add-i Inv-loop μ-loop
 add-i c =
@@ -111,9 +122,12 @@ loop-again c =
     let g : ℕ → ℕ = λ j. f (l .i + j) in
     let t : take z x ≡ tab g z = steps-part (a .numbers .now) (ref s) (a .e) (l .i) z (l .i + z - l .i) (l .xs) x (omega arith) (omega (arith, m .there)) (omega (arith, m .most, l .inv .1)) (q .scale .ensures) in
     let r = block-more (a .bits) (a .marks .now) v N (omega arith) (p .value) (a .out .now) (present-room (a .bits) (a .marks .now) v N (length (a .out .now)) (p .mark) (s .pre .1 .1 .1))
-    (l .i) z (take z x) (ap length t ∙ length-tab g z) (m .most) (omega (arith, m .there)) (omega (arith, m .there, long s))
-    (λ j h o. ap (λ (y : List ℕ). getD y j 0) t ∙ getD-tab g z j 0 h ∙ scaled-present (a .numbers .now) (a .marks .now) (ref s) (a .e) (l .i + j) (omega (arith, m .there)) o)
-    (l .progress) (l .held) (l .out) (l .inv .2) (l .inv .3) _ (k .put-block .ensures .0) _ (k .put-block .ensures .1 .0) _ (k .put-block .ensures .1 .1) in
+    (l .i) z (take z x) (ap length t ∙ length-tab g z) (m .most) (omega (arith, m .there))
+    (omega (arith, m .there, long s))
+    (λ j h o. ap (λ (y : List ℕ). getD y j 0) t ∙ getD-tab g z j 0 h
+    ∙ scaled-present (a .numbers .now) (a .marks .now) (ref s) (a .e) (l .i + j) (omega (arith, m .there)) o)
+    (l .progress) (l .held) (l .out) (l .inv .2) (l .inv .3) _ (k .put-block .ensures .0) _
+    (k .put-block .ensures .1 .0) _ (k .put-block .ensures .1 .1) in
     (omega (arith, m .there), q .scale .kept .1 .1 .1 .0 ∙ l .inv .1, r .0, r .1)
 
 returns : tie.Need-returns Inv-loop μ-loop
@@ -127,8 +141,11 @@ returns c =
     let N = length (a .numbers .now) in
     let v = valueOf (scaledFrom (a .numbers .now) (a .marks .now) (ref s) (a .e)) in
     let e : l .i ≡ N = omega (arith, l .inv .0) in
-    last-all (a .bits) (a .marks .now) v N (omega arith) (p .value) (a .out .now) (present-room (a .bits) (a .marks .now) v N (length (a .out .now)) (p .mark) (s .pre .1 .1 .1))
-    (l .progress) (l .held) (l .out) (l .inv .2) (subst (λ (x : ℕ). Passed (a .bits) (gathered (markOf (a .marks .now)) v x) (a .out .now) (l .progress) (l .held) (l .out)) e (l .inv .3)) _ (q .put-last .ensures .1)
+    last-all (a .bits) (a .marks .now) v N (omega arith) (p .value) (a .out .now)
+    (present-room (a .bits) (a .marks .now) v N (length (a .out .now)) (p .mark) (s .pre .1 .1 .1))
+    (l .progress) (l .held) (l .out) (l .inv .2)
+    (subst (λ (x : ℕ). Passed (a .bits) (gathered (markOf (a .marks .now)) v x) (a .out .now) (l .progress) (l .held)
+    (l .out)) e (l .inv .3)) _ (q .put-last .ensures .1)
     ∙ packed-back (a .numbers .now) (a .marks .now) (a .r) (a .e) (s .fits .r .sfits) (a .bits) N (a .out .now)
 
 pub put-points-spec : {M : Type 1} → statement M

@@ -23,11 +23,13 @@ start t = t .before .before .before
 abbrev ref : tie.After-struct-told → ℤ
 ref t = toZ w32 (ofZ w32 (start t .args .choice .reference))
 
-lists : (t : tie.After-struct-told) → let a = start t .args in Listed (scaledFrom (a .numbers .now) (a .marks .now) (ref t) (a .choice .exponent)) (a .marks .now) (a .bits)
+lists : (t : tie.After-struct-told)
+    → let a = start t .args in Listed (scaledFrom (a .numbers .now) (a .marks .now) (ref t) (a .choice .exponent)) (a .marks .now) (a .bits)
 lists t = let a = start t .args in listed-back (a .numbers .now) (a .marks .now) (a .choice .reference) (a .choice .exponent) (t .struct-told .given .0 .1) (a .bits) (start t .pre .1 .0)
 
 -- every point is present
-all : (h : tie.Then1) → let a = start (h .before) .args in length (a .numbers .now) ≡ count (markOf (a .marks .now)) 0 (length (a .numbers .now))
+all : (h : tie.Then1)
+    → let a = start (h .before) .args in length (a .numbers .now) ≡ count (markOf (a .marks .now)) 0 (length (a .numbers .now))
 all h = omega (arith, start (h .before) .pre .1 .1 .0)
 
 put-every-requires : tie.Need-put-every-requires
@@ -36,8 +38,13 @@ put-every-requires c κs =
     let t = h .before in
     let s = start t in
     let a = s .args in
-    let n = ap (λ (x : ℕ). x * a .bits) (all h ∙ sym (s .pre .1 .1 .0)) in
-    (s .pre .0, (every-wide (a .numbers .now) (a .marks .now) (ref t) (a .choice .exponent) (a .bits) (lists t) (all h), (refl, omega (arith, n, s .pre .1 .1 .1))))
+    let n = ap (λ (x : ℕ). x * a .bits) (all h ∙ sym (s .pre .1 .1 .0)) in (
+      s .pre .0,
+      (
+        every-wide (a .numbers .now) (a .marks .now) (ref t) (a .choice .exponent) (a .bits) (lists t) (all h),
+        (refl, omega (arith, n, s .pre .1 .1 .1)),
+      ),
+    )
 
 put-points-requires : tie.Need-put-points-requires
 put-points-requires c κs =
@@ -53,8 +60,10 @@ returns c =
     let t = h .before in
     let a = start t .args in
     q .put-every .ensures
-    ∙ ap (λ (x : List ℕ). packedInto (a .bits) x (a .out .now)) (every-is (a .numbers .now) (a .marks .now) (ref t) (a .choice .exponent) (a .bits) (lists t) (all h))
-    ∙ packed-back (a .numbers .now) (a .marks .now) (a .choice .reference) (a .choice .exponent) (t .struct-told .given .0 .1) (a .bits) (length (a .numbers .now)) (a .out .now)
+    ∙ ap (λ (x : List ℕ). packedInto (a .bits) x (a .out .now))
+    (every-is (a .numbers .now) (a .marks .now) (ref t) (a .choice .exponent) (a .bits) (lists t) (all h))
+    ∙ packed-back (a .numbers .now) (a .marks .now) (a .choice .reference) (a .choice .exponent)
+    (t .struct-told .given .0 .1) (a .bits) (length (a .numbers .now)) (a .out .now)
 
 returns-2 : tie.Need-returns-2
 returns-2 c =
@@ -62,7 +71,8 @@ returns-2 c =
     let t = q .before .before .before .before .before in
     let a = start t .args in
     q .put-points .ensures
-    ∙ packed-back (a .numbers .now) (a .marks .now) (a .choice .reference) (a .choice .exponent) (t .struct-told .given .0 .1) (a .bits) (length (a .numbers .now)) (a .out .now)
+    ∙ packed-back (a .numbers .now) (a .marks .now) (a .choice .reference) (a .choice .exponent)
+    (t .struct-told .given .0 .1) (a .bits) (length (a .numbers .now)) (a .out .now)
 
 pub put-scaled-spec : {M : Type 1} → statement M
 put-scaled-spec =

@@ -17,7 +17,8 @@ wide c i = c .before .before .slice-known .given i .fits
 small : (c : tie.After-at) → c .before .before .before .args .v < 2 ^ c .before .before .before .args .n
 small c = c .before .before .before .pre .1 .0
 
-kept : (c : tie.After-at) → c .at .result ≡ getD (c .before .before .before .args .out .now) (c .before .before .before .args .from / 8) 0
+kept : (c : tie.After-at)
+    → c .at .result ≡ getD (c .before .before .before .args .out .now) (c .before .before .before .args .from / 8) 0
 kept c = let a = c .before .before .before .args in c .at .ensures ∙ ap (λ (x : ℕ). getD (a .out .now) x 0) (add-zero (a .from / 8))
 
 -- the number of the touched octets, as the machine makes it
@@ -46,8 +47,14 @@ store-requires : tie.Need-store-requires
 store-requires c κs =
     let d = c .before in
     let a = d .before .before .before .args in
-    let k = (a .from % 8 + a .n + 7) / 8 in
-    (omega arith, (subst (λ (x : ℕ). x < 2 ^ (k * 8)) (sym (all-is d)) (all-lt (a .out .now) (a .from) (a .n) (a .v) (wide d) (small d) k), omega arith))
+    let k = (a .from % 8 + a .n + 7) / 8 in (
+      omega arith,
+      (
+        subst (λ (x : ℕ). x < 2 ^ (k * 8)) (sym (all-is d))
+            (all-lt (a .out .now) (a .from) (a .n) (a .v) (wide d) (small d) k),
+        omega arith,
+      ),
+    )
 
 returns : tie.Need-returns
 returns c =

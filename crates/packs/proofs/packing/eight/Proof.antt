@@ -29,7 +29,8 @@ mul-all c =
     record { fits = held-fits (a .n) (a .vs .now) (omega arith) (a .i) (l .j) (l .all) _ _ (omega arith) e .0 }
 
 cast-all : tie.Need-cast-all Inv-loop μ-loop
-cast-all c = omega (arith, c .shared-slice-known .given (c .before .before .before .args .i + c .before .before .loop .j))
+cast-all c =
+    omega (arith, c .shared-slice-known .given (c .before .before .before .args .i + c .before .before .loop .j))
 
 add-all-2 : tie.Need-add-all-2 Inv-loop μ-loop
 add-all-2 c =
@@ -43,8 +44,11 @@ loop-again : tie.Need-loop-again Inv-loop μ-loop
 loop-again c =
     let l = c .before .before .loop in
     let b = c .before .before .before in
-    let a = b .args in
-    (omega arith, held-more (a .n) (a .vs .now) (b .pre .1 .0) (a .i) (l .j) (l .all) _ (power-is (a .n) (omega arith)) (l .inv .1))
+    let a = b .args in (
+      omega arith,
+      held-more (a .n) (a .vs .now) (b .pre .1 .0) (a .i) (l .j) (l .all) _ (power-is (a .n) (omega arith))
+          (l .inv .1),
+    )
 
 returns : tie.Need-returns Inv-loop μ-loop
 returns c =

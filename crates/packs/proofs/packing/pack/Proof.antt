@@ -8,17 +8,21 @@ use Rattle.packs.proofs.Lists.{pack-width, pack-fits, pack-room, pack-w
 use Rattle.packs.proofs.packing.pack.Statement.{statement}
 use Rattle.packs.proofs.packing.pack.Tie as tie
 
-yes : (c : tie.Then1) → let a = c .before .before .before .before .args in packFits (a .n) (a .vs .now) (length (a .out .now)) ≡ true
+yes : (c : tie.Then1)
+    → let a = c .before .before .before .before .args in packFits (a .n) (a .vs .now) (length (a .out .now)) ≡ true
 yes c = sym (c .before .packable .ensures) ∙ c .if1 .taken
 
-no : (c : tie.Else1) → let a = c .before .before .before .before .args in packFits (a .n) (a .vs .now) (length (a .out .now)) ≡ false
+no : (c : tie.Else1)
+    → let a = c .before .before .before .before .args in packFits (a .n) (a .vs .now) (length (a .out .now)) ≡ false
 no c = sym (c .before .packable .ensures) ∙ c .if1 .left
 
 pack-all-requires : tie.Need-pack-all-requires
 pack-all-requires c κs =
     let a = c .before .before .before .before .before .args in
-    let h = yes (c .before) in
-    (pack-width (a .n) (a .vs .now) _ h, (pack-wide (a .n) (a .vs .now) _ h, (pack-fits (a .n) (a .vs .now) _ h, pack-room (a .n) (a .vs .now) _ h)))
+    let h = yes (c .before) in (
+      pack-width (a .n) (a .vs .now) _ h,
+      (pack-wide (a .n) (a .vs .now) _ h, (pack-fits (a .n) (a .vs .now) _ h, pack-room (a .n) (a .vs .now) _ h)),
+    )
 
 returns : tie.Need-returns
 returns c =

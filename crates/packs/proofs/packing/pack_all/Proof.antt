@@ -15,13 +15,15 @@ pack-small-requires : tie.Need-pack-small-requires
 pack-small-requires c κs = (omega arith, (c .before .before .before .before .pre .1 .0, (omega arith, omega arith)))
 
 pack-over-requires : tie.Need-pack-over-requires
-pack-over-requires c κs = (omega arith, (c .before .before .before .before .before .before .before .pre .1 .0, omega arith))
+pack-over-requires c κs =
+    (omega arith, (c .before .before .before .before .before .before .before .pre .1 .0, omega arith))
 
 store-requires : tie.Need-store-requires
 store-requires c κs = (omega arith, (omega arith, omega arith))
 
 pack-rest-requires : tie.Need-pack-rest-requires
-pack-rest-requires c κs = (omega arith, (c .before .before .before .before .before .pre .1 .0, (omega arith, (omega arith, omega arith))))
+pack-rest-requires c κs =
+    (omega arith, (c .before .before .before .before .before .pre .1 .0, (omega arith, (omega arith, omega arith))))
 
 returns-2 : tie.Need-returns-2
 returns-2 c =
@@ -31,7 +33,9 @@ returns-2 c =
     let f = c .before .before .before .before .before .before .before .before in
     let z : (octetsFor (length (a .vs .now) * a .n) + (1 - 1)) * 8 ≡ octetsFor (length (a .vs .now) * a .n) * 8 = omega arith in
     c .before .before .store .ensures
-    ∙ ap₂ (λ (x : List ℕ) (y : ℕ). numberAt x (octetsFor (length (a .vs .now) * a .n)) 4 y) (c .before .before .before .before .before .before .pack-over .ensures) (f .four .ensures ∙ ap (λ (x : ℕ). run (bitsIn 8 (a .out .now)) x 32) z)
+    ∙ ap₂ (λ (x : List ℕ) (y : ℕ). numberAt x (octetsFor (length (a .vs .now) * a .n)) 4 y)
+    (c .before .before .before .before .before .before .pack-over .ensures)
+    (f .four .ensures ∙ ap (λ (x : ℕ). run (bitsIn 8 (a .out .now)) x 32) z)
     ∙ restored (a .n) (a .vs .now) (a .out .now) (omega arith) (λ i. k .slice-known .given i .fits) (omega arith)
 
 returns-3 : tie.Need-returns-3

@@ -15,7 +15,8 @@ use Rattle.packs.proofs.packing.pack_rest.Tie as tie
 
 abbrev Inv-loop : tie.InvT-loop
 Inv-loop vs n out₀ from i₀ place₀ out i place =
-    (i ≤ length vs) × (place ≡ i * n) × (length out ≡ length out₀) × ((d : List ℕ) → out₀ ≡ packedInto n (take from vs) d → out ≡ packedInto n (take i vs) d)
+    (i ≤ length vs) × (place ≡ i * n) × (length out ≡ length out₀)
+    × ((d : List ℕ) → out₀ ≡ packedInto n (take from vs) d → out ≡ packedInto n (take i vs) d)
 
 abbrev μ-loop : tie.MeasureT-loop
 μ-loop vs n out₀ from i₀ place₀ out i place = length vs - i
@@ -23,7 +24,12 @@ abbrev μ-loop : tie.MeasureT-loop
 mul-place : tie.Need-mul-place Inv-loop μ-loop
 mul-place c =
     let a = c .before .before .args in
-    omega (arith, c .before .before .pre .1 .1 .0, mul-le-mul-right {m = a .from} {n = length (a .vs .now)} (a .n) (omega arith))
+    omega (
+      arith,
+      c .before .before .pre .1 .1 .0,
+      mul-le-mul-right {m = a .from} {n = length (a .vs .now)} (a .n)
+          (omega arith),
+    )
 
 loop-holds : tie.Need-loop-holds Inv-loop μ-loop
 loop-holds c = (omega arith, refl, refl, λ d e. e)
@@ -64,7 +70,8 @@ returns c d e =
     let l = c .before .loop in
     let a = c .before .before .before .before .args in
     let f : l .i ≡ length (a .vs .now) = omega arith in
-    l .inv .3 d e ∙ ap (λ (x : List ℕ). packedInto (a .n) x d) (ap (λ (k : ℕ). take k (a .vs .now)) f ∙ take-length (a .vs .now))
+    l .inv .3 d e
+    ∙ ap (λ (x : List ℕ). packedInto (a .n) x d) (ap (λ (k : ℕ). take k (a .vs .now)) f ∙ take-length (a .vs .now))
 
 pub pack-rest-spec : {M : Type 1} → statement M
 pack-rest-spec =

@@ -1,4 +1,5 @@
--- The invariants: the first i numbers are packed, and what lies past the data is as it was; then, whatever they were packed over, i more are.
+-- The invariants: the first i numbers are packed, and what lies past the data is as it was; then, whatever they were
+-- packed over, i more are.
 use mathlib.Core.Path.{_≡_, refl, sym, ap₂, _∙_, subst}
 use mathlib.Core.List.{List}
 use Prim.Native.Nat.{ℕ, _≤_, _<_, _+_, _-_, _*_, _^_}
@@ -16,14 +17,16 @@ use Rattle.packs.proofs.packing.pack_small.Tie as tie
 
 abbrev Inv-loop : tie.InvT-loop
 Inv-loop vs n out₀ end k₀ i₀ out k i =
-    (k ≤ end) × (k * 8 ≡ i * n) × (length out ≡ length out₀) × (out ≡ packedInto n (take i vs) out) × (drop end out ≡ drop end out₀) × (i ≤ length vs)
+    (k ≤ end) × (k * 8 ≡ i * n) × (length out ≡ length out₀) × (out ≡ packedInto n (take i vs) out)
+    × (drop end out ≡ drop end out₀) × (i ≤ length vs)
 
 abbrev μ-loop : tie.MeasureT-loop
 μ-loop vs n out₀ end k₀ i₀ out k i = length vs - i
 
 abbrev Inv-loop2 : tie.InvT-loop2
 Inv-loop2 vs n out₀ end k₀ i₀ out k i =
-    (i ≤ length vs) × (k * 8 ≡ i * n) × (length out ≡ length out₀) × ((d : List ℕ) → out₀ ≡ packedInto n (take i₀ vs) d → out ≡ packedInto n (take i vs) d)
+    (i ≤ length vs) × (k * 8 ≡ i * n) × (length out ≡ length out₀)
+    × ((d : List ℕ) → out₀ ≡ packedInto n (take i₀ vs) d → out ≡ packedInto n (take i vs) d)
 
 abbrev μ-loop2 : tie.MeasureT-loop2
 μ-loop2 vs n out₀ end k₀ i₀ out k i = length vs - i
@@ -73,7 +76,8 @@ loop-again c =
       omega arith,
       omega (arith, add-mul (l .i) 8 (a .n)),
       c .before .before .store .kept .0 ∙ l .inv .2,
-      ahead-turn (a .n) (a .vs .now) (l .out) (l .i) (l .k) _ (b .pre .1 .0) (omega arith) (m .0) (l .inv .1) (c .before .before .before .eight .ensures) _ (l .inv .3) q,
+      ahead-turn (a .n) (a .vs .now) (l .out) (l .i) (l .k) _ (b .pre .1 .0) (omega arith) (m .0) (l .inv .1)
+          (c .before .before .before .eight .ensures) _ (l .inv .3) q,
       ahead-kept (l .out) _ (l .k) (octetsFor (length (a .vs .now) * a .n)) _ (omega arith) (omega arith) q ∙ l .inv .4,
       m .0,
     )
@@ -94,8 +98,14 @@ store-requires-2 c κs =
     let a = c .before .before .before .before .before .before .before .before .args in
     let h = c .eight2 .ensures in
     let m : (l .i + 8) * a .n ≡ l .i * a .n + 8 * a .n = add-mul (l .i) 8 (a .n) in
-    let u = mul-le-mul-right {m = l .i + 8} {n = length (a .vs .now)} (a .n) (omega arith) in
-    (omega arith, (subst (λ (x : ℕ). x < 2 ^ (a .n * 8)) (sym h) (run-below (bitsIn-bits (a .n) (a .vs .now)) (l .i * a .n) (8 * a .n) (a .n * 8) (omega arith)), omega arith))
+    let u = mul-le-mul-right {m = l .i + 8} {n = length (a .vs .now)} (a .n) (omega arith) in (
+      omega arith,
+      (
+        subst (λ (x : ℕ). x < 2 ^ (a .n * 8)) (sym h)
+            (run-below (bitsIn-bits (a .n) (a .vs .now)) (l .i * a .n) (8 * a .n) (a .n * 8) (omega arith)),
+        omega arith,
+      ),
+    )
 
 add-k-2 : tie.Need-add-k-2 Inv-loop μ-loop Inv-loop2 μ-loop2
 add-k-2 c =
@@ -114,7 +124,8 @@ loop2-again c =
       c .before .before .store2 .kept .0 ∙ l .inv .2,
       λ d e.
           c .before .before .store2 .ensures
-          ∙ ap₂ (λ (x : List ℕ) (y : ℕ). numberAt x (l .k) (a .n) y) (l .inv .3 d e) (c .before .before .before .eight2 .ensures)
+          ∙ ap₂ (λ (x : List ℕ) (y : ℕ). numberAt x (l .k) (a .n) y) (l .inv .3 d e)
+          (c .before .before .before .eight2 .ensures)
           ∙ small-turn (a .n) (a .vs .now) d (l .i) (l .k) (b .pre .1 .0) (omega arith) (omega arith) (l .inv .1),
     )
 
@@ -128,7 +139,8 @@ returns c =
     let m = c .before .before .before .before .before .loop2 in
     let l = c .before .before .before .before .before .before .before .loop in
     let a = c .before .before .before .before .before .before .before .before .before .before .args in
-    c .before .before .pack-rest .ensures (l .out) (m .inv .3 (l .out) (l .inv .3)) ∙ ahead-all (a .n) (a .vs .now) (l .out) (a .out .now) (l .inv .4)
+    c .before .before .pack-rest .ensures (l .out) (m .inv .3 (l .out) (l .inv .3))
+    ∙ ahead-all (a .n) (a .vs .now) (l .out) (a .out .now) (l .inv .4)
 
 pub pack-small-spec : {M : Type 1} → statement M
 pack-small-spec =

@@ -20,11 +20,20 @@ abbrev μ-loop : tie.MeasureT-loop
 loop-holds : tie.Need-loop-holds Inv-loop μ-loop
 loop-holds c =
     let b = c .before .before in
-    let a = b .args in
-    (omega arith, omega arith, subst (State (a .vs .now) (a .n) (a .out .now) (a .i) (a .out .now) (a .k) 0 0) (sym (add-zero (a .i))) (state-none (a .vs .now) (a .n) (a .out .now) (a .k) (a .i) (b .pre .1 .1 .1 .0)))
+    let a = b .args in (
+      omega arith,
+      omega arith,
+      subst (State (a .vs .now) (a .n) (a .out .now) (a .i) (a .out .now) (a .k) 0 0)
+          (sym (add-zero (a .i))) (state-none (a .vs .now) (a .n) (a .out .now) (a .k) (a .i) (b .pre .1 .1 .1 .0)),
+    )
 
 cast-all : tie.Need-cast-all Inv-loop μ-loop
-cast-all c = omega (arith, c .shared-slice-known2 .given (c .before .before .before .before .before .args .i + c .before .before .loop .j))
+cast-all c =
+    omega (
+      arith,
+      c .shared-slice-known2 .given
+          (c .before .before .before .before .before .args .i + c .before .before .loop .j),
+    )
 
 add-all-2 : tie.Need-add-all-2 Inv-loop μ-loop
 add-all-2 c =
@@ -59,7 +68,8 @@ loop-again c =
       omega arith,
       omega arith,
       subst (State (a .vs .now) (a .n) (a .out .now) (a .i) _ (a .k) _ _) (sym r)
-          (state-turn (a .n) (a .vs .now) (b .pre .1 .0) (omega arith) (a .out .now) (a .i) (q .out) (a .k) (q .p) (q .all) (a .i + q .j) (q .inv .2) (omega arith) _ (f .kept .0) (f .ensures)),
+          (state-turn (a .n) (a .vs .now) (b .pre .1 .0) (omega arith) (a .out .now) (a .i) (q .out) (a .k) (q .p)
+          (q .all) (a .i + q .j) (q .inv .2) (omega arith) _ (f .kept .0) (f .ensures)),
     )
 
 returns : tie.Need-returns Inv-loop μ-loop

@@ -15,7 +15,8 @@ room : (c : tie.Then1) →
 room c =
     let d = c .before in
     let a = d .before .before .before .before .args in
-    fit-room (a .out .now) (a .p) (a .k) (a .c) (a .x) _ _ _ (d .before .before .offset .ensures) (d .before .room .ensures) (d .below .ensures) (c .if1 .taken)
+    fit-room (a .out .now) (a .p) (a .k) (a .c) (a .x) _ _ _ (d .before .before .offset .ensures)
+    (d .before .room .ensures) (d .below .ensures) (c .if1 .taken)
 
 add-store : tie.Need-add-store
 add-store c = omega (arith, room (c .before))
@@ -23,22 +24,33 @@ add-store c = omega (arith, room (c .before))
 store-requires : tie.Need-store-requires
 store-requires c κs =
     let d = c .before .before in
-    let f = fit-few (d .before .before .before .before .args .out .now) _ _ _ _ _ _ _ (d .before .before .offset .ensures) (d .before .room .ensures) (d .below .ensures) (c .before .if1 .taken) in
-    (omega arith, (fit-small (d .before .before .before .before .args .out .now) _ _ _ _ _ _ _ (d .before .before .offset .ensures) (d .before .room .ensures) (d .below .ensures) (c .before .if1 .taken), room (c .before)))
+    let f = fit-few (d .before .before .before .before .args .out .now) _ _ _ _ _ _ _ (d .before .before .offset .ensures) (d .before .room .ensures) (d .below .ensures) (c .before .if1 .taken) in (
+      omega arith,
+      (
+        fit-small (d .before .before .before .before .args .out .now) _ _ _ _ _ _ _ (d .before .before .offset .ensures)
+            (d .before .room .ensures) (d .below .ensures) (c .before .if1 .taken),
+        room (c .before),
+      ),
+    )
 
 returns : tie.Need-returns
 returns c =
     let t = c .before .before .before .before in
     let d = t .before in (
-      fit-answer _ _ _ _ _ _ _ _ (d .before .before .offset .ensures) (d .before .room .ensures) (d .below .ensures) (t .if1 .taken),
-      c .before .before .store .ensures ∙ fit-left _ _ _ _ _ _ _ _ (d .before .before .offset .ensures) (d .before .room .ensures) (d .below .ensures) (t .if1 .taken),
+      fit-answer _ _ _ _ _ _ _ _ (d .before .before .offset .ensures) (d .before .room .ensures) (d .below .ensures)
+          (t .if1 .taken),
+      c .before .before .store .ensures
+          ∙ fit-left _ _ _ _ _ _ _ _ (d .before .before .offset .ensures) (d .before .room .ensures) (d .below .ensures)
+          (t .if1 .taken),
     )
 
 returns-2 : tie.Need-returns-2
 returns-2 c =
     let d = c .before in (
-      unfit-answer _ _ _ _ _ _ _ _ (d .before .before .offset .ensures) (d .before .room .ensures) (d .below .ensures) (c .if1 .left),
-      unfit-left _ _ _ _ _ _ _ _ (d .before .before .offset .ensures) (d .before .room .ensures) (d .below .ensures) (c .if1 .left),
+      unfit-answer _ _ _ _ _ _ _ _ (d .before .before .offset .ensures) (d .before .room .ensures) (d .below .ensures)
+          (c .if1 .left),
+      unfit-left _ _ _ _ _ _ _ _ (d .before .before .offset .ensures) (d .before .room .ensures) (d .below .ensures)
+          (c .if1 .left),
     )
 
 pub put-number-spec : {M : Type 1} → statement M

@@ -49,8 +49,12 @@ loop-less c = omega arith
 loop-again : tie.Need-loop-again Inv-loop μ-loop
 loop-again c =
     let l = c .before .loop in
-    let a = c .before .before .args in
-    (omega arith, simp length-set (l .inv .1), number-turn (a .out .now) (l .out) (a .k) (a .c) (a .x) (l .j) (omega arith) (c .before .before .pre .1 .0) (c .loop-test .taken) (l .inv .2))
+    let a = c .before .before .args in (
+      omega arith,
+      simp length-set (l .inv .1),
+      number-turn (a .out .now) (l .out) (a .k) (a .c) (a .x) (l .j)
+          (omega arith) (c .before .before .pre .1 .0) (c .loop-test .taken) (l .inv .2),
+    )
 
 same-length : tie.Need-same-length Inv-loop μ-loop
 same-length c = omega arith
@@ -61,7 +65,9 @@ returns c =
     let l = c .before .loop in
     let a = c .before .before .args in
     let e : l .j ≡ a .c = omega arith in
-    l .inv .2 ∙ ap (λ (j : ℕ). (take (a .k) (a .out .now) ++ runs (bitOf (a .c * 8) (a .x)) 0 8 j) ++ drop (a .k + j) (a .out .now)) e
+    l .inv .2
+    ∙ ap (λ (j : ℕ). (take (a .k) (a .out .now) ++ runs (bitOf (a .c * 8) (a .x)) 0 8 j)
+    ++ drop (a .k + j) (a .out .now)) e
 
 pub store-spec : {M : Type 1} → statement M
 store-spec =

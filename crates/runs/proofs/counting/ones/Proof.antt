@@ -20,16 +20,19 @@ sub-mask-2 c =
 
 whole : (c : tie.After-at) →
     let a = c .before .before .before .args in
-    c .before .ones-whole .result + ones (bitAnd (c .at .result) (256 - 1 * 2 ^ (8 - a .n % 8) % 2 ^ 32)) ≡ count (bitsIn 8 (a .s .now)) (a .p * 8) (a .n)
+    c .before .ones-whole .result + ones (bitAnd (c .at .result) (256 - 1 * 2 ^ (8 - a .n % 8) % 2 ^ 32))
+    ≡ count (bitsIn 8 (a .s .now)) (a .p * 8) (a .n)
 whole c =
     let a = c .before .before .before .args in
     let f = bitsIn 8 (a .s .now) in
     let h = c .at .ensures in
     let p : (a .p + a .n / 8) * 8 ≡ a .p * 8 + a .n / 8 * 8 = omega arith in
-    ap₂ (λ (x y : ℕ). x + ones (bitAnd (c .at .result) (256 - y))) (c .before .ones-whole .ensures) (one-shl 32 (8 - a .n % 8) (omega arith))
+    ap₂ (λ (x y : ℕ). x + ones (bitAnd (c .at .result) (256 - y))) (c .before .ones-whole .ensures)
+    (one-shl 32 (8 - a .n % 8) (omega arith))
     ∙ ap (λ (x : ℕ). count f (a .p * 8) (a .n / 8 * 8) + ones (bitAnd x (256 - 2 ^ (8 - a .n % 8)))) h
     ∙ ap (λ (x : ℕ). count f (a .p * 8) (a .n / 8 * 8) + x)
-    (ones-mask (a .s .now) (a .p + a .n / 8) (a .n % 8) (omega arith) (omega arith) ∙ ap (λ (x : ℕ). count f x (a .n % 8)) p)
+    (ones-mask (a .s .now) (a .p + a .n / 8) (a .n % 8) (omega arith) (omega arith)
+    ∙ ap (λ (x : ℕ). count f x (a .n % 8)) p)
     ∙ sym (count-split f (a .p * 8) (a .n / 8 * 8) (a .n % 8)) ∙ ap (count f (a .p * 8)) (div-add-mod' (a .n) 8)
 
 add-result : tie.Need-add-result

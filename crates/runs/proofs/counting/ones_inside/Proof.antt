@@ -30,7 +30,8 @@ loop-holds c = (omega arith, refl)
 
 eight : (c : tie.After-word8 Inv-loop μ-loop Inv-loop2 μ-loop2) →
     let a = c .before .before .before .before .args in
-    c .before .before .loop .total + ones (c .word8 .result) ≡ count (bitsIn 8 (a .s .now)) (a .p * 8) ((c .before .before .loop .j + 8) * 8)
+    c .before .before .loop .total + ones (c .word8 .result)
+    ≡ count (bitsIn 8 (a .s .now)) (a .p * 8) ((c .before .before .loop .j + 8) * 8)
 eight c =
     let l = c .before .before .loop in
     let a = c .before .before .before .before .args in
@@ -55,7 +56,8 @@ one : (c : tie.After-shared-slice-known2 Inv-loop μ-loop Inv-loop2 μ-loop2) �
 one c =
     let l = c .before .before .loop2 in
     let a = c .before .before .before .before .before .before .args in
-    ap (λ (x : ℕ). x + ones (getD (a .s .now) (a .p + l .j) 0)) (l .inv .1) ∙ sym (count-octet (a .s .now) (a .p) (l .j) (c .shared-slice-known2 .given (a .p + l .j) .fits))
+    ap (λ (x : ℕ). x + ones (getD (a .s .now) (a .p + l .j) 0)) (l .inv .1)
+    ∙ sym (count-octet (a .s .now) (a .p) (l .j) (c .shared-slice-known2 .given (a .p + l .j) .fits))
 
 add-total-3 : tie.Need-add-total-3 Inv-loop μ-loop Inv-loop2 μ-loop2
 add-total-3 c =

@@ -10,7 +10,8 @@ returns-2 : tie.Need-returns-2
 returns-2 c =
     let k = c .before .before .before in
     let a = k .before .args in
-    c .ones-inside2 .ensures ∙ count-inside (a .s .now) (a .p) _ (a .c) (λ i. k .shared-slice-known .given i .fits) (omega arith) (omega arith)
+    c .ones-inside2 .ensures
+    ∙ count-inside (a .s .now) (a .p) _ (a .c) (λ i. k .shared-slice-known .given i .fits) (omega arith) (omega arith)
 
 returns-3 : tie.Need-returns-3
 returns-3 c =

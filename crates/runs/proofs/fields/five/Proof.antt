@@ -23,14 +23,16 @@ returns : tie.Need-returns
 returns c =
     let a = c .before .before .before .before .before .args in
     let h = c .wide .ensures in
-    ap₂ (λ (x y : ℕ). x * 256 + y) (c .before .before .word .ensures) (h .0) ∙ sym (run-octet (a .s .now) (a .k) 4 (omega arith))
+    ap₂ (λ (x y : ℕ). x * 256 + y) (c .before .before .word .ensures) (h .0)
+    ∙ sym (run-octet (a .s .now) (a .k) 4 (omega arith))
 
 returns-2 : tie.Need-returns-2
 returns-2 c =
     let a = c .before .before .before .before .args in
     let z : (a .k + (1 - 1)) * 8 ≡ a .k * 8 = omega arith in
     let h = c .at .ensures in
-    ap₂ (λ (x y : ℕ). x * 256 + y) (c .before .four .ensures ∙ ap (λ (x : ℕ). run (bitsIn 8 (a .s .now)) x 32) z) h ∙ sym (run-octet (a .s .now) (a .k) 4 (omega arith))
+    ap₂ (λ (x y : ℕ). x * 256 + y) (c .before .four .ensures ∙ ap (λ (x : ℕ). run (bitsIn 8 (a .s .now)) x 32) z) h
+    ∙ sym (run-octet (a .s .now) (a .k) 4 (omega arith))
 
 pub five-spec : {M : Type 1} → statement M
 five-spec =

@@ -14,7 +14,8 @@ rem-result c = rw (one-shl 64 (c .before .before .args .n) (omega arith)) (pow-p
 
 value : (c : tie.After-five) →
     let a = c .before .before .args in
-    c .five .result / 2 ^ (40 - a .from % 8 - a .n) % ((1 * 2 ^ a .n) % 2 ^ 64) ≡ run (bitsIn 8 (a .s .now)) (a .from) (a .n)
+    c .five .result / 2 ^ (40 - a .from % 8 - a .n) % ((1 * 2 ^ a .n) % 2 ^ 64)
+    ≡ run (bitsIn 8 (a .s .now)) (a .from) (a .n)
 value c =
     let a = c .before .before .args in
     let r = 40 - a .from % 8 - a .n in

@@ -12,7 +12,8 @@ use Rattle.runs.proofs.unpacking.unpack_12.Statement.{statement}
 use Rattle.runs.proofs.unpacking.unpack_12.Tie as tie
 
 abbrev Inv-loop : tie.InvT-loop
-Inv-loop s k out₀ m h₀ out h = (h ≤ m / 2) × (length out ≡ length out₀) × (out ≡ runs (bitsIn 8 s) (k * 8) 12 (h * 2) ++ drop (h * 2) out₀)
+Inv-loop s k out₀ m h₀ out h =
+    (h ≤ m / 2) × (length out ≡ length out₀) × (out ≡ runs (bitsIn 8 s) (k * 8) 12 (h * 2) ++ drop (h * 2) out₀)
 
 abbrev μ-loop : tie.MeasureT-loop
 μ-loop s k out₀ m h₀ out h = m / 2 - h
@@ -33,7 +34,8 @@ loop-again c =
       simp length-set (l .inv .1),
       read-same (a .s .now) (a .out .now) _ (a .k * 8) 12 (l .h * 2 + 1 + 1) ((l .h + 1) * 2) r
           (stored (a .s .now) (a .out .now) _ (a .k * 8) 12 (l .h * 2 + 1) _ _ (omega arith)
-          (stored (a .s .now) (a .out .now) (l .out) (a .k * 8) 12 (l .h * 2) _ _ (omega arith) (l .inv .2) (c .before .first-12 .ensures) (omega arith))
+          (stored (a .s .now) (a .out .now) (l .out) (a .k * 8) 12 (l .h * 2) _ _ (omega arith) (l .inv .2)
+          (c .before .first-12 .ensures) (omega arith))
           (c .second-12 .ensures) (omega arith)),
     )
 
@@ -42,7 +44,8 @@ returns c =
     let l = c .before .before .before .loop in
     let a = c .before .before .before .before .before .before .args in
     read-same (a .s .now) (a .out .now) _ (a .k * 8) 12 (l .h * 2 + 1) (a .m) (omega arith)
-    (stored (a .s .now) (a .out .now) (l .out) (a .k * 8) 12 (l .h * 2) _ _ (omega arith) (l .inv .2) (c .value .ensures) (omega arith))
+    (stored (a .s .now) (a .out .now) (l .out) (a .k * 8) 12 (l .h * 2) _ _ (omega arith) (l .inv .2)
+    (c .value .ensures) (omega arith))
 
 returns-2 : tie.Need-returns-2 Inv-loop μ-loop
 returns-2 c =

@@ -14,7 +14,8 @@ use Rattle.runs.proofs.unpacking.unpack_8.Statement.{statement}
 use Rattle.runs.proofs.unpacking.unpack_8.Tie as tie
 
 abbrev Inv-loop : tie.InvT-loop
-Inv-loop s k out₀ m i₀ out i = (i ≤ m) × (length out ≡ length out₀) × (out ≡ runs (bitsIn 8 s) (k * 8) 8 i ++ drop i out₀)
+Inv-loop s k out₀ m i₀ out i =
+    (i ≤ m) × (length out ≡ length out₀) × (out ≡ runs (bitsIn 8 s) (k * 8) 8 i ++ drop i out₀)
 
 abbrev μ-loop : tie.MeasureT-loop
 μ-loop s k out₀ m i₀ out i = m - i
@@ -30,7 +31,8 @@ loop-again c =
     let a = g .before .args in (
       omega arith,
       simp length-set (l .inv .1),
-      octet-turn (a .s .now) (a .out .now) (l .out) (a .k) 8 (l .i) (c .low .result) _ (omega arith) (l .inv .2) (c .low .ensures .0) (at-8 (a .s .now) (a .k) (l .i) (λ i. g .shared-slice-known .given i .fits)),
+      octet-turn (a .s .now) (a .out .now) (l .out) (a .k) 8 (l .i) (c .low .result) _ (omega arith) (l .inv .2)
+          (c .low .ensures .0) (at-8 (a .s .now) (a .k) (l .i) (λ i. g .shared-slice-known .given i .fits)),
     )
 
 returns : tie.Need-returns Inv-loop μ-loop

@@ -32,19 +32,25 @@ returns-2 : tie.Need-returns-2
 returns-2 c =
     let t = c .before .before .before .before in
     let a = t .before .before .before .before .args in
-    read-at (a .s .now) (drop (a .m) (a .out .now)) _ (a .at) (a .n) 8 (a .m) (whole-start (a .at) (a .n) 8 (t .if2 .taken)) (whole-width (a .at) (a .n) 8 (t .if2 .taken)) (c .before .before .unpack-8 .ensures)
+    read-at (a .s .now) (drop (a .m) (a .out .now)) _ (a .at) (a .n) 8 (a .m)
+    (whole-start (a .at) (a .n) 8 (t .if2 .taken)) (whole-width (a .at) (a .n) 8 (t .if2 .taken))
+    (c .before .before .unpack-8 .ensures)
 
 returns-3 : tie.Need-returns-3
 returns-3 c =
     let t = c .before .before .before .before in
     let a = t .before .before .before .before .before .args in
-    read-at (a .s .now) (drop (a .m) (a .out .now)) _ (a .at) (a .n) 12 (a .m) (whole-start (a .at) (a .n) 12 (t .if3 .taken)) (whole-width (a .at) (a .n) 12 (t .if3 .taken)) (c .before .before .unpack-12 .ensures)
+    read-at (a .s .now) (drop (a .m) (a .out .now)) _ (a .at) (a .n) 12 (a .m)
+    (whole-start (a .at) (a .n) 12 (t .if3 .taken)) (whole-width (a .at) (a .n) 12 (t .if3 .taken))
+    (c .before .before .unpack-12 .ensures)
 
 returns-4 : tie.Need-returns-4
 returns-4 c =
     let t = c .before .before .before .before in
     let a = t .before .before .before .before .before .before .args in
-    read-at (a .s .now) (drop (a .m) (a .out .now)) _ (a .at) (a .n) 16 (a .m) (whole-start (a .at) (a .n) 16 (t .if4 .taken)) (whole-width (a .at) (a .n) 16 (t .if4 .taken)) (c .before .before .unpack-16 .ensures)
+    read-at (a .s .now) (drop (a .m) (a .out .now)) _ (a .at) (a .n) 16 (a .m)
+    (whole-start (a .at) (a .n) 16 (t .if4 .taken)) (whole-width (a .at) (a .n) 16 (t .if4 .taken))
+    (c .before .before .unpack-16 .ensures)
 
 pub unpack-all-spec : {M : Type 1} → statement M
 unpack-all-spec =

@@ -36,7 +36,8 @@ loop-again c =
       omega arith,
       omega (arith, next (l .i) (a .n)),
       simp length-set (l .inv .2),
-      stored (a .s .now) (a .out .now) (l .out) (a .at) (a .n) (l .i) (c .taken .result) _ (omega arith) (l .inv .3) (c .taken .ensures) (l .inv .1),
+      stored (a .s .now) (a .out .now) (l .out) (a .at) (a .n) (l .i) (c .taken .result) _ (omega arith) (l .inv .3)
+          (c .taken .ensures) (l .inv .1),
     )
 
 returns : tie.Need-returns Inv-loop μ-loop

@@ -15,11 +15,13 @@ rem-result c = rw (one-shl 64 (c .before .before .args .n) (omega arith)) (pow-p
 
 meant : (c : tie.After-word) →
     let a = c .before .before .args in
-    c .word .result / 2 ^ (32 - a .skip - a .n) % ((1 * 2 ^ a .n) % 2 ^ 64) ≡ run (bitsIn 8 (a .s .now)) (a .k * 8 + a .skip) (a .n)
+    c .word .result / 2 ^ (32 - a .skip - a .n) % ((1 * 2 ^ a .n) % 2 ^ 64)
+    ≡ run (bitsIn 8 (a .s .now)) (a .k * 8 + a .skip) (a .n)
 meant c =
     let a = c .before .before .args in
     let r = 32 - a .skip - a .n in
-    ap₂ (λ (x y : ℕ). x / 2 ^ r % y) (c .word .ensures) (one-shl 64 (a .n) (omega arith)) ∙ run-inside (a .s .now) (a .k) (a .skip) (a .n) r (omega arith)
+    ap₂ (λ (x y : ℕ). x / 2 ^ r % y) (c .word .ensures) (one-shl 64 (a .n) (omega arith))
+    ∙ run-inside (a .s .now) (a .k) (a .skip) (a .n) r (omega arith)
 
 cast-result : tie.Need-cast-result
 cast-result c =

@@ -13,7 +13,9 @@ returns c =
     let w2 = c .before .before .before .before .wide2 in
     let w1 = c .before .before .before .before .before .before in
     let k = w1 .before .before in
-    ap₂ (λ (x y : ℕ). x * 256 + y) (ap₂ (λ (x y : ℕ). x * 256 + y) (ap₂ (λ (x y : ℕ). x * 256 + y) (w1 .wide .ensures .0) (w2 .ensures .0)) (w3 .ensures .0)) (w4 .ensures .0)
+    ap₂ (λ (x y : ℕ). x * 256 + y)
+    (ap₂ (λ (x y : ℕ). x * 256 + y) (ap₂ (λ (x y : ℕ). x * 256 + y) (w1 .wide .ensures .0) (w2 .ensures .0))
+    (w3 .ensures .0)) (w4 .ensures .0)
     ∙ run-four (k .before .args .s .now) (k .before .args .k) (λ i. k .shared-slice-known .given i .fits)
 
 pub word-spec : {M : Type 1} → statement M

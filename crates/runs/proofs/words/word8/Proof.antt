@@ -16,7 +16,12 @@ mul-result c =
 add-result : tie.Need-add-result
 add-result c =
     let a = c .before .before .before .args in
-    omega (arith, run-lt (bitsIn-bits 8 (a .s .now)) (a .k * 8) 32, run-lt (bitsIn-bits 8 (a .s .now)) ((a .k + 4) * 8) 32)
+    omega (
+      arith,
+      run-lt (bitsIn-bits 8 (a .s .now)) (a .k * 8) 32,
+      run-lt (bitsIn-bits 8 (a .s .now)) ((a .k + 4) * 8)
+          32,
+    )
 
 returns : tie.Need-returns
 returns c =

@@ -10,7 +10,9 @@ returns : tie.Need-returns
 returns c = out _ (c .before .before .fits .z) (sym (c .before .large .ensures) ∙ c .if1 .taken)
 
 sub-size : tie.Need-sub-size
-sub-size c = turned-fits _ (c .before .before .before .fits .z) (sym (c .before .before .large .ensures) ∙ c .before .if1 .left) (c .if2 .taken)
+sub-size c =
+    turned-fits _ (c .before .before .before .fits .z) (sym (c .before .before .large .ensures) ∙ c .before .if1 .left)
+    (c .if2 .taken)
 
 cast-spelt : tie.Need-cast-spelt
 cast-spelt c =
@@ -24,7 +26,8 @@ spelt-requires c κs =
 
 returns-2 : tie.Need-returns-2
 returns-2 c =
-    minus-is _ (c .before .before .before .before .fits .z) (sym (c .before .before .before .large .ensures) ∙ c .before .before .if1 .left) (c .before .if2 .taken)
+    minus-is _ (c .before .before .before .before .fits .z)
+    (sym (c .before .before .before .large .ensures) ∙ c .before .before .if1 .left) (c .before .if2 .taken)
     _ (c .spelt .ensures .0)
 
 cast-spelt-2 : tie.Need-cast-spelt-2
@@ -39,11 +42,16 @@ spelt-requires-2 c κs =
 
 returns-3 : tie.Need-returns-3
 returns-3 c =
-    plus-is _ (c .before .before .before .before .before .fits .z) (sym (c .before .before .before .before .large .ensures) ∙ c .before .before .before .if1 .left) (c .before .if3 .taken)
+    plus-is _ (c .before .before .before .before .before .fits .z)
+    (sym (c .before .before .before .before .large .ensures) ∙ c .before .before .before .if1 .left)
+    (c .before .if3 .taken)
     _ (c .spelt2 .ensures .0)
 
 returns-4 : tie.Need-returns-4
-returns-4 c = neither-is _ (c .before .before .before .before .fits .z) (sym (c .before .before .before .large .ensures) ∙ c .before .before .if1 .left) (c .before .if2 .left) (c .if3 .left)
+returns-4 c =
+    neither-is _ (c .before .before .before .before .fits .z)
+    (sym (c .before .before .before .large .ensures) ∙ c .before .before .if1 .left) (c .before .if2 .left)
+    (c .if3 .left)
 
 pub spelling-spec : {M : Type 1} → statement M
 spelling-spec =

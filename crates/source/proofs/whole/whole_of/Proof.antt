@@ -18,7 +18,9 @@ cast-size c =
     record { sfits = omega arith }
 
 returns-2 : tie.Need-returns-2
-returns-2 c = number-plus _ _ (c .before .parts .ensures) (sym (c .before .before .before .whole-bad .ensures) ∙ c .before .before .if1 .left) (c .if2 .taken)
+returns-2 c =
+    number-plus _ _ (c .before .parts .ensures)
+    (sym (c .before .before .before .whole-bad .ensures) ∙ c .before .before .if1 .left) (c .if2 .taken)
 
 sub-result : tie.Need-sub-result
 sub-result c =
@@ -26,7 +28,9 @@ sub-result c =
     neg-sub-fits (c .before .parts .result / 1048576) (omega arith)
 
 returns-3 : tie.Need-returns-3
-returns-3 c = number-minus _ _ (c .before .parts .ensures) (sym (c .before .before .before .whole-bad .ensures) ∙ c .before .before .if1 .left) (c .if2 .left)
+returns-3 c =
+    number-minus _ _ (c .before .parts .ensures)
+    (sym (c .before .before .before .whole-bad .ensures) ∙ c .before .before .if1 .left) (c .if2 .left)
 
 pub whole-of-spec : {M : Type 1} → statement M
 whole-of-spec =

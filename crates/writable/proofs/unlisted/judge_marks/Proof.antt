@@ -19,7 +19,9 @@ returns-2 c =
     let i = c .before .before in
     let j = i .before .before in
     let s = j .before .before .before .before .args .long in
-    own-last _ _ _ _ _ _ _ _ _ (j .judge-early .ensures (zeros s) (length-zeros s)) (i .if1 .left) _ (c .before .marks-bad .ensures) _ (c .last .ensures)
+    own-last _ _ _ _ _ _ _ _ _ (j .judge-early .ensures (zeros s) (length-zeros s)) (i .if1 .left) _
+    (c .before .marks-bad .ensures) _ (c .last .ensures)
 
 pub judge-marks-spec : {M : Type 1} → statement M
-judge-marks-spec = tie.close (tie.spec (λ c κs. search needs) returns (λ c κs. search needs) (λ c κs. search needs) returns-2)
+judge-marks-spec =
+    tie.close (tie.spec (λ c κs. search needs) returns (λ c κs. search needs) (λ c κs. search needs) returns-2)

@@ -1,4 +1,5 @@
--- A block of points at a time: of the values so far, whole blocks are packed and the rest are held (laws block-more and last-all).
+-- A block of points at a time: of the values so far, whole blocks are packed and the rest are held (laws block-more and
+-- last-all).
 use borrow.Author.Needs.{needs}
 use native.Mathlib.Omega.{arith}
 use Prim.Native.Nat.{ℕ, _+_, _-_, _≤_, _<_}
@@ -14,7 +15,8 @@ use Rattle.writer.proofs.gathering.put_points.Tie as tie
 
 abbrev Inv-loop : tie.InvT-loop
 Inv-loop values marks bits held₀ out₀ progress₀ i₀ held out progress i =
-    (i ≤ length values) × (progress .held < 256) × Passed bits (gathered (markOf marks) (valueOf values) i) out₀ progress held out
+    (i ≤ length values) × (progress .held < 256)
+    × Passed bits (gathered (markOf marks) (valueOf values) i) out₀ progress held out
 
 abbrev μ-loop : tie.MeasureT-loop
 μ-loop values marks bits held₀ out₀ progress₀ i₀ held out progress i = length values - i
@@ -23,14 +25,19 @@ abbrev start : tie.After-block-of Inv-loop μ-loop → tie.Start Inv-loop μ-loo
 start b = b .before .before .before .before .before .before .before
 
 -- the points of the block
-points : (b : tie.After-block-of Inv-loop μ-loop) → Next (length (start b .args .values .now) - b .before .before .loop .i) (b .block-of .result)
+points : (b : tie.After-block-of Inv-loop μ-loop)
+    → Next (length (start b .args .values .now) - b .before .before .loop .i) (b .block-of .result)
 points b = next _ _ (b .block-of .ensures)
 
 loop-holds : tie.Need-loop-holds Inv-loop μ-loop
 loop-holds c =
     let s = c .before .before .before .before in
-    let a = s .args in
-    (omega arith, omega arith, passed-none (a .bits) (a .marks .now) (valueOf (a .values .now)) (a .out .now) (a .held .now) (s .pre .1 .1 .0))
+    let a = s .args in (
+      omega arith,
+      omega arith,
+      passed-none (a .bits) (a .marks .now) (valueOf (a .values .now)) (a .out .now)
+          (a .held .now) (s .pre .1 .1 .0),
+    )
 
 add-put-block : tie.Need-add-put-block Inv-loop μ-loop
 add-put-block c = omega (arith, points c .there, start c .pre .1 .0 .same)
@@ -73,8 +80,10 @@ loop-again c =
     let xs = take (l .i + b .block-of .result - l .i) (drop (l .i) (a .values .now)) in
     let k : length xs ≡ b .block-of .result = part-size (a .values .now) (l .i) (b .block-of .result) (omega (arith, m .there, p .same)) in
     let t = block-more (a .bits) (a .marks .now) v N (omega arith) (p .value) (a .out .now) (present-room (a .bits) (a .marks .now) v N _ (p .mark) (s .pre .1 .1 .1))
-    (l .i) (b .block-of .result) xs k (m .most) (omega (arith, m .there)) (omega arith) (λ j h _. part-value (a .values .now) (l .i) (l .i + b .block-of .result - l .i) j (omega arith))
-    (l .progress) (l .held) (l .out) (l .inv .1) (l .inv .2) _ (q .put-block .ensures .0) _ (q .put-block .ensures .1 .0) _ (q .put-block .ensures .1 .1) in
+    (l .i) (b .block-of .result) xs k (m .most) (omega (arith, m .there)) (omega arith)
+    (λ j h _. part-value (a .values .now) (l .i) (l .i + b .block-of .result - l .i) j (omega arith))
+    (l .progress) (l .held) (l .out) (l .inv .1) (l .inv .2) _ (q .put-block .ensures .0) _
+    (q .put-block .ensures .1 .0) _ (q .put-block .ensures .1 .1) in
     (omega (arith, m .there), t .0, t .1)
 
 returns : tie.Need-returns Inv-loop μ-loop
@@ -88,8 +97,11 @@ returns c =
     let N = length (a .values .now) in
     let v = valueOf (a .values .now) in
     let e : l .i ≡ N = omega (arith, l .inv .0) in
-    last-all (a .bits) (a .marks .now) v N (omega arith) (p .value) (a .out .now) (present-room (a .bits) (a .marks .now) v N _ (p .mark) (s .pre .1 .1 .1))
-    (l .progress) (l .held) (l .out) (l .inv .1) (subst (λ (x : ℕ). Passed (a .bits) (gathered (markOf (a .marks .now)) v x) (a .out .now) (l .progress) (l .held) (l .out)) e (l .inv .2)) _ (q .put-last .ensures .1)
+    last-all (a .bits) (a .marks .now) v N (omega arith) (p .value) (a .out .now)
+    (present-room (a .bits) (a .marks .now) v N _ (p .mark) (s .pre .1 .1 .1))
+    (l .progress) (l .held) (l .out) (l .inv .1)
+    (subst (λ (x : ℕ). Passed (a .bits) (gathered (markOf (a .marks .now)) v x) (a .out .now) (l .progress) (l .held)
+    (l .out)) e (l .inv .2)) _ (q .put-last .ensures .1)
 
 pub put-points-spec : {M : Type 1} → statement M
 put-points-spec =
