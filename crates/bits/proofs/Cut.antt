@@ -7,9 +7,9 @@ use native.Mathlib.Omega.{arith}
 use native.Mathlib.Nat.{zero-add, zero-lt-suc, div-lt-iff-lt-mul, mul-add-div-right, mul-add-mod-self-right}
 use lib.ListN.{length, getD, take, drop, length-drop, take-append-drop}
 use lib.Seq.{getD-drop, getD-take, drop-drop}
-use Rattle.bits.specs.Bits.{bitOf, bitsIn, run, runs}
+use Rattle.bits.specs.Bits.{bitOf, bitsIn, run, runs, Wide}
 use Rattle.bits.proofs.Runs.{bitsIn-bits, run-ext}
-use Rattle.bits.proofs.Trip.{Wide, runs-ext, bit-run, runs-own}
+use Rattle.bits.proofs.Trip.{runs-ext, bit-run, runs-own}
 use Rattle.bits.proofs.Next.{bits-left}
 use Rattle.bits.proofs.Placed.{wide-one}
 

@@ -6,11 +6,10 @@ use mathlib.Core.Logic.{⊎-elim}
 use native.Mathlib.Omega.{arith}
 use native.Mathlib.Nat.{zero-add, not-suc-le-zero}
 use lib.ListN.{List·getD-eq-default}
-use Rattle.bits.specs.Bits.{bitOf, bitsIn, count}
+use Rattle.bits.specs.Bits.{bitOf, bitsIn, count, Wide}
 use Rattle.bits.specs.Tables.{tab}
 use Rattle.bits.proofs.Runs.{Bits, bits-at, lt-or-ge}
 use Rattle.bits.proofs.Fill.{length-tab, getD-tab}
-use Rattle.bits.proofs.Trip.{Wide}
 use Rattle.bits.proofs.Ones.{count-ext}
 use Rattle.bits.proofs.Below.{upto}
 

@@ -11,11 +11,11 @@ use lib.Arith.{lt-one}
 use native.Mathlib.Numerals.{add-one}
 use lib.ListN.{length, getD, set, take, drop, length-append, take-append-drop, List·getD-append}
 use lib.Seq.{length-take-le, getD-append-add, drop-append-add, drop-drop}
-use Rattle.bits.specs.Bits.{bitOf, bitsIn, run, runs, join, octetsFor, putAt, packedInto}
+use Rattle.bits.specs.Bits.{bitOf, bitsIn, run, runs, join, octetsFor, putAt, packedInto, Wide}
 use Rattle.bits.specs.Tables.{tab}
 use Rattle.bits.proofs.Runs.{Bits, bitsIn-bits, next, lt-or-ge, octet-of}
 use Rattle.bits.proofs.Fill.{snoc-at}
-use Rattle.bits.proofs.Trip.{Wide, length-runs, runs-ext, bits-runs, room}
+use Rattle.bits.proofs.Trip.{length-runs, runs-ext, bits-runs, room}
 
 pub join-lt : (at : ℕ) (f g : ℕ → ℕ) (i : ℕ) → i < at → join at f g i ≡ f i
 unfolding join

@@ -9,9 +9,9 @@ use lib.ListN.{getD, length}
 use lib.Pow.{pow-pos, shr-lt}
 use lib.Bits.{bitAnd, and-high}
 use lib.Count.{ones, ones-cat}
-use Rattle.bits.specs.Bits.{bitOf, bitsIn, run, count}
+use Rattle.bits.specs.Bits.{bitOf, bitsIn, run, count, Wide}
 use Rattle.bits.proofs.Runs.{Bits, bitsIn-bits, run-ext, run-top, run-unit, bits-at}
-use Rattle.bits.proofs.Trip.{Wide, bits-past}
+use Rattle.bits.proofs.Trip.{bits-past}
 
 ones-bit : (r : ℕ) → r < 2 → ones r ≡ r
 unfolding ones

@@ -12,11 +12,11 @@ use native.Mathlib.Numerals.{add-one}
 use mathlib.Core.Logic.{⊎-elim}
 use lib.ListN.{length, getD, take, drop, length-take, List·getD-eq-default}
 use lib.Seq.{getD-take, take-suc, length-take-le}
-use Rattle.bits.specs.Bits.{bitOf, bitsIn, run, runs, join, octetsFor, putAt, numberAt, packedInto}
+use Rattle.bits.specs.Bits.{bitOf, bitsIn, run, runs, join, octetsFor, putAt, numberAt, packedInto, Wide}
 use Rattle.bits.specs.Tables.{tab}
 use Rattle.bits.proofs.Runs.{Bits, bitsIn-bits, bitOf-bits, run-word, run-lt, run-ext, run-split, run-top}
 use Rattle.bits.proofs.Runs.{run-unit, bits-at, lt-or-ge}
-use Rattle.bits.proofs.Trip.{Wide, bits-runs, runs-ext, runs-own, bit-run, bits-past}
+use Rattle.bits.proofs.Trip.{bits-runs, runs-ext, runs-own, bit-run, bits-past}
 use Rattle.bits.proofs.Next.{bits-after, join-lt, join-ge, join-bits, put-packedInto}
 
 pub run-zero : (f : ℕ → ℕ) (a r : ℕ) → ((j : ℕ) → j < r → f (a + j) ≡ 0) → run f a r ≡ 0

@@ -10,14 +10,10 @@ use lib.Arith.{lt-one}
 use lib.ListN.{length, getD, take, drop, take-append-drop, List·getD-append, List·getD-eq-default}
 use lib.Seq.{take-suc, take-length}
 use lib.Pow.{pow-pos}
-use Rattle.bits.specs.Bits.{bitOf, bitsIn, run, runs, octetsFor, packedInto}
+use Rattle.bits.specs.Bits.{bitOf, bitsIn, run, runs, octetsFor, packedInto, Wide}
 use Rattle.bits.specs.Tables.{tab}
 use Rattle.bits.proofs.Runs.{Bits, bitsIn-bits, run-lt, run-ext, run-field, run-unit, bits-at, lt-or-ge, next-le}
 use Rattle.bits.proofs.Fill.{length-tab, getD-tab, tab-ext}
-
--- each number of xs has w bits
-abbrev pub Wide : ℕ → List ℕ → Type 0
-Wide w xs = (k : ℕ) → getD xs k 0 < 2 ^ w
 
 pub length-runs : (f : ℕ → ℕ) (at n m : ℕ) → length (runs f at n m) ≡ m
 unfolding runs

@@ -5,9 +5,8 @@ use Prim.Native.Nat.{ℕ, _+_, _*_, _/_, _%_, _^_}
 use native.Mathlib.Nat.{zero-add, add-zero}
 use native.Mathlib.Omega.{arith}
 use lib.ListN.{getD}
-use Rattle.bits.specs.Bits.{bitsIn, run}
+use Rattle.bits.specs.Bits.{bitsIn, run, Wide}
 use Rattle.bits.proofs.Runs.{bitsIn-bits, run-octet, run-field, run-unit, run-split}
-use Rattle.bits.proofs.Trip.{Wide}
 
 pub run-two : (s : List ℕ) (k : ℕ) → Wide 8 s → getD s k 0 * 256 + getD s (k + 1) 0 ≡ run (bitsIn 8 s) (k * 8) 16
 unfolding run

@@ -1,5 +1,5 @@
 -- Runs of bits. A sequence of bits is a function from a bit's place, counted from 0 at the left, to 0 or 1.
-use Prim.Native.Nat.{ℕ, zero, suc, _+_, _-_, _*_, _/_, _%_, _^_}
+use Prim.Native.Nat.{ℕ, zero, suc, _+_, _-_, _*_, _/_, _%_, _^_, _<_}
 use mathlib.Core.List.{List, [], _∷_, _++_}
 use mathlib.Core.Bool.{cond}
 use lib.Dec.{ltb}
@@ -15,6 +15,10 @@ bitOf w x j = x / 2 ^ (w - 1 - j) % 2
 -- 0 where that is below 2^0 (law no-width)
 unfoldable pub bitsIn : ℕ → List ℕ → ℕ → ℕ
 bitsIn w xs i = bitOf w (getD xs (i / w) 0) (i % w)
+
+-- each number of xs has w bits
+abbrev pub Wide : ℕ → List ℕ → Type 0
+Wide w xs = (k : ℕ) → getD xs k 0 < 2 ^ w
 
 -- the number that the n bits from place at on make, high bit first
 unfoldable pub run : (ℕ → ℕ) → ℕ → ℕ → ℕ

@@ -6,8 +6,8 @@ use native.Mathlib.Nat.{add-mul, zero-add}
 use native.Mathlib.Omega.{arith}
 use lib.ListN.{length, take, drop, length-append}
 use lib.Seq.{take-at, drop-at, drop-drop}
-use Rattle.bits.specs.Bits.{bitsIn, runs, octetsFor, packedInto}
-use Rattle.bits.proofs.Trip.{Wide, length-runs, runs-ext}
+use Rattle.bits.specs.Bits.{bitsIn, runs, octetsFor, packedInto, Wide}
+use Rattle.bits.proofs.Trip.{length-runs, runs-ext}
 use Rattle.bits.proofs.Next.{bits-left, bits-right}
 use Rattle.bits.proofs.Placed.{runs-split}
 

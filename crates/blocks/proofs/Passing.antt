@@ -10,11 +10,10 @@ use native.Mathlib.Omega.{arith}
 use lib.ListN.{length, take, drop, length-append, length-drop}
 use lib.Seq.{take-add, take-at, drop-at, drop-drop, take-take, take-all, take-append-le, drop-append-le, length-take-le}
 use lib.Seq.{getD-take, getD-drop}
-use Rattle.bits.specs.Bits.{count, octetsFor, packedInto}
+use Rattle.bits.specs.Bits.{count, octetsFor, packedInto, Wide}
 use Rattle.bits.proofs.Runs.{Bits, lt-or-ge}
 use Rattle.bits.specs.Tables.{tab}
 use Rattle.bits.proofs.Fill.{length-tab}
-use Rattle.bits.proofs.Trip.{Wide}
 use Rattle.bits.proofs.Placed.{wide-take, pack-none}
 use Rattle.bits.proofs.Kept.{length-packed}
 use Rattle.rules.specs.Bitmap.{markOf, valueOf}

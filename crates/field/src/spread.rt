@@ -1,12 +1,12 @@
 // Values to their points through a bitmap, the last first.
 ghost use mathlib.Core.Path.{_≡_};
-ghost use Prim.Native.Nat.{ℕ, _+_, _-_, _*_, _<_, _≤_};
+ghost use Prim.Native.Nat.{_+_, _-_, _*_, _<_, _≤_};
 ghost use lib.ListN.{length, drop, getD, set};
-ghost use mathlib.Core.List.{List, _++_};
+ghost use mathlib.Core.List.{_++_};
 ghost use Rattle.bits.specs.Bits.{bitOf, bitsIn, count};
 ghost use Rattle.bits.specs.Tables.{tab};
 ghost use Rattle.rules.specs.Points.{valueAt};
-ghost use Rattle.field.specs.Down.{Down};
+ghost use Rattle.field.specs.Down.{Settles};
 
 // Bit j of an octet, the highest being bit 0.
 fn bit(b: u8, j: usize) -> u32
@@ -44,8 +44,7 @@ fn spread_octet(bitmap: &[u8], values: &mut [u32], n: usize, g: usize, c: usize)
     requires { ⌜ g * 8 + 8 ≤ n ⌝ }
     requires { ⌜ n ≤ length (now values) ⌝ }
     ensures { λ r. ⌜ (r ≡ count (bitsIn 8 (now (bitmap .entry))) 0 (g * 8))
-        × ((v : List ℕ) → Down (bitsIn 8 (now (bitmap .entry))) n v (now (values .entry)) (g * 8 + 8)
-        → Down (bitsIn 8 (now (bitmap .entry))) n v (now (values .exit)) (g * 8)) ⌝ }
+        × Settles (bitsIn 8 (now (bitmap .entry))) n (now (values .entry)) (now (values .exit)) g ⌝ }
 {
     let b = bitmap[g];
     let mut j: usize = 8;

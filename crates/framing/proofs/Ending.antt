@@ -9,11 +9,11 @@ use native.Mathlib.Omega.{arith}
 use lib.ListN.{length, take, drop, length-append, length-drop}
 use lib.Seq.{take-append-le, take-at, drop-at, drop-append-add, drop-drop, length-take-le}
 use Rattle.rules.specs.Bounds.{bitsMost}
-use Rattle.bits.specs.Bits.{bitOf, bitsIn, runs, octetsFor, numberAt, count, packedInto, placed}
+use Rattle.bits.specs.Bits.{bitOf, bitsIn, runs, octetsFor, numberAt, count, packedInto, placed, Wide}
 use Rattle.bits.specs.Tables.{tab}
 use Rattle.bits.proofs.Runs.{lt-or-ge}
 use Rattle.bits.proofs.Fill.{tab-of}
-use Rattle.bits.proofs.Trip.{Wide, length-runs, runs-ext, bits-past}
+use Rattle.bits.proofs.Trip.{length-runs, runs-ext, bits-past}
 use Rattle.bits.proofs.Kept.{length-packed}
 use Rattle.bits.proofs.Placed.{runs-split}
 use Rattle.bits.proofs.Placing.{length-placed, number-placed}

@@ -5,9 +5,9 @@ use mathlib.Core.Path.{_≡_, refl, _∙_, ap}
 use mathlib.Core.List.{List}
 use native.Mathlib.Omega.{arith}
 use lib.ListN.{length, getD}
-use Rattle.bits.specs.Bits.{bitsIn, run, runs}
+use Rattle.bits.specs.Bits.{bitsIn, run, runs, Wide}
 use Rattle.bits.proofs.Runs.{bitsIn-bits, next-le}
-use Rattle.bits.proofs.Trip.{Wide, length-runs, wide-runs, getD-runs}
+use Rattle.bits.proofs.Trip.{length-runs, wide-runs, getD-runs}
 use Rattle.rules.specs.Bounds.{bdsHead}
 use Rattle.rules.specs.Numbers.{octet}
 use Rattle.rules.specs.Places.{placesOf}

@@ -8,9 +8,9 @@ use native.Mathlib.Omega.{arith}
 use native.Mathlib.Nat.{add-zero, add-assoc, zero-add}
 use lib.ListN.{length, getD, drop, length-append, List·getD-append}
 use lib.Seq.{getD-drop, drop-drop, drop-at}
-use Rattle.bits.specs.Bits.{bitOf, bitsIn, run}
+use Rattle.bits.specs.Bits.{bitOf, bitsIn, run, Wide}
 use Rattle.bits.proofs.Runs.{bitOf-bits, run-ext, run-word, run-unit}
-use Rattle.bits.proofs.Trip.{Wide, bits-runs, length-runs, getD-runs}
+use Rattle.bits.proofs.Trip.{bits-runs, length-runs, getD-runs}
 use Rattle.bits.proofs.Cut.{cut, bits-drop, number-here}
 use Rattle.rules.specs.Numbers.{Field, octets, laid}
 

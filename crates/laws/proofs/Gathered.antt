@@ -14,11 +14,10 @@ use lib.Dec.{eqb}
 use lib.Pow.{pow-pos}
 use lib.ListN.{length, getD, take, length-append, List·getD-append}
 use lib.Seq.{getD-at, take-suc, take-length}
-use Rattle.bits.specs.Bits.{count}
+use Rattle.bits.specs.Bits.{count, Wide}
 use Rattle.bits.specs.Tables.{tab}
 use Rattle.bits.proofs.Runs.{Bits}
 use Rattle.bits.proofs.Fill.{getD-tab, tab-ext, tab-of}
-use Rattle.bits.proofs.Trip.{Wide}
 use Rattle.bits.proofs.Ones.{count-one, count-none, count-mono}
 use Rattle.bits.proofs.Cut.{wide-snoc}
 use Rattle.bits.proofs.Marks.{count-same}

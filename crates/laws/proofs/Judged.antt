@@ -13,8 +13,9 @@ use Rattle.rules.specs.Time.{timeFaults}
 use Rattle.rules.specs.Grid.{gridMissing, theGrid, gdsFaults, gridFaults}
 use Rattle.rules.specs.Bitmap.{Lent, bitmapFaults}
 use Rattle.rules.specs.Values.{packingFaults, lengthBad}
-use Rattle.rules.specs.Reading.{gridOf, pointsIn, bitmapIn, presentCount, packingIn, layoutRows, gridRows, dataRows}
-use Rattle.rules.specs.Reading.{parsedOf, earlierRows, messageTable, ownRefusal, readTable, readRefusal}
+use Rattle.rules.specs.Reading.{gridOf, pointsIn, bitmapIn, presentCount, packingIn}
+use Rattle.rules.specs.Reading.{parsedOf, messageTable, ownRefusal, readTable, readRefusal}
+use Rattle.laws.specs.Groups.{layoutRows, gridRows, dataRows, earlierRows}
 use Rattle.laws.specs.Tables.{Clear, RowsInGroups}
 use Rattle.laws.specs.Taken.{Taken}
 use Rattle.laws.proofs.Rows.{zero-of, clear, clear-parts, accepts, taken-by}

@@ -1,5 +1,6 @@
 -- The words in which the laws speak of what acceptance leaves: of a table, of a signed field, of a point's mark, of a
 -- message, of a source field.
+pub mod Groups
 pub mod Tables
 pub mod Signs
 pub mod Marks

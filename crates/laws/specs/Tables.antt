@@ -7,7 +7,8 @@ use Rattle.rules.specs.Table.{Row, given, row}
 use Rattle.rules.specs.Places.{placesOf}
 use Rattle.rules.specs.Bitmap.{Lent}
 use Rattle.rules.specs.Values.{lengthBad}
-use Rattle.rules.specs.Reading.{presentCount, packingIn, parsedOf, earlierRows, messageTable}
+use Rattle.rules.specs.Reading.{presentCount, packingIn, parsedOf, messageTable}
+use Rattle.laws.specs.Groups.{earlierRows}
 
 -- no row of a table applies
 abbrev pub Clear : List Row → Type 0

@@ -3,7 +3,7 @@ ghost use mathlib.Core.Path.{_≡_};
 ghost use Rattle.rules.specs.Table.{anyOf, firstOr};
 ghost use Rattle.rules.specs.Places.{pdsStart, endStart, hasGrid, hasBitmap, placesOf, sizeBad, gribBad, editionBad};
 ghost use Rattle.rules.specs.Places.{totalFaults, sectionFaults, placesFaults};
-ghost use Rattle.rules.specs.Reading.{layoutRows};
+ghost use Rattle.laws.specs.Groups.{layoutRows};
 ghost use Rattle.layout.specs.Parts.{SectionRead};
 use octets::four;
 use octets::octet;

@@ -1,21 +1,20 @@
 // Marks put as a bitmap, eight to an octet, and taken from one.
 ghost use mathlib.Core.Path.{_≡_};
-ghost use mathlib.Core.List.{List, _++_};
-ghost use Prim.Native.Nat.{ℕ, _+_, _-_, _*_, _/_, _<_, _≤_};
+ghost use mathlib.Core.List.{_++_};
+ghost use Prim.Native.Nat.{_+_, _-_, _*_, _/_, _<_, _≤_};
 ghost use lib.Dec.{leb};
 ghost use lib.ListN.{length, drop};
 ghost use Rattle.bits.specs.Bits.{bitsIn, run, runs, placed};
 ghost use Rattle.bits.specs.Tables.{tab};
 ghost use Rattle.rules.specs.Bitmap.{markOf};
-ghost use Rattle.marks.specs.Marks.{marksPut, markedBy};
+ghost use Rattle.marks.specs.Marks.{marksPut, markedBy, OctetOf, FillsOn};
 use crate::judging::inside;
 use crate::judging::within;
 
 // The octet of the c marks from point p on, eight or the last of m points, and zeros after them.
 fn octet_of(marks: &[u8], p: usize, c: usize) -> u8
     requires { ⌜ (p + c ≤ length (now marks)) × (c ≤ 8) ⌝ }
-    ensures { λ r. ⌜ ((m : ℕ) → p + c ≤ m → (c < 8 → m ≡ p + c) → r
-        ≡ run (bitsIn 1 (tab (markOf (now (marks .entry))) m)) p 8) ⌝ }
+    ensures { λ r. ⌜ OctetOf (now (marks .entry)) p c r ⌝ }
 {
     let mut x: u8 = 0;
     let mut j: usize = 0;
@@ -103,8 +102,7 @@ fn fill_inside(map: &[u8], k: usize, m: usize, marks: &mut [u8])
 fn fill_same(x: u8, from: usize, n: usize, marks: &mut [u8])
     requires { ⌜ from ≤ n ⌝ }
     requires { ⌜ n ≤ length (now marks) ⌝ }
-    ensures { λ _. ⌜ ((f : ℕ → ℕ) (d : List ℕ) → ((i : ℕ) → from ≤ i → i < n → x ≡ f i) → n ≤ length d
-        → now (marks .entry) ≡ tab f from ++ drop from d → now (marks .exit) ≡ tab f n ++ drop n d) ⌝ }
+    ensures { λ _. ⌜ FillsOn x from n (now (marks .entry)) (now (marks .exit)) ⌝ }
 {
     let mut i = from;
     while i < n {

@@ -13,8 +13,9 @@ use Rattle.rules.specs.Bitmap.{Lent, inForce, bitmapOctets, presentBy}
 use Rattle.rules.specs.Values.{lengthBad}
 use Rattle.laws.proofs.Judged.{rows-in-groups}
 use Rattle.reply.proofs.Stages.{or-append, staged}
-use Rattle.rules.specs.Reading.{parsedOf, foundBy, inForceIn, presentIn, presentCount, packingIn, layoutRows, gridRows}
-use Rattle.rules.specs.Reading.{dataRows, earlierRows, refusedBy, foundIn, ownRefusal, answerBy, headerOf}
+use Rattle.rules.specs.Reading.{parsedOf, foundBy, inForceIn, presentIn, presentCount, packingIn}
+use Rattle.rules.specs.Reading.{refusedBy, foundIn, ownRefusal, answerBy, headerOf}
+use Rattle.laws.specs.Groups.{layoutRows, gridRows, dataRows, earlierRows}
 
 -- the stages of rows 1 to 11
 pub stages : (s : List ℕ) (lent : Lent) (q : Parsed) (none x y r : Refusal) → none ≡ refusal 0

@@ -1,8 +1,9 @@
 // The header of a message: refusals 1 to 12 in stages, as one answer. All total.
 ghost use mathlib.Core.Path.{_≡_};
 ghost use Rattle.rules.specs.Table.{refusal, firstOr, first};
-ghost use Rattle.rules.specs.Reading.{gridRows, dataRows, earlierRows, parsedOf, foundBy, refusedBy, headerOf};
+ghost use Rattle.rules.specs.Reading.{parsedOf, foundBy, refusedBy, headerOf};
 ghost use Rattle.rules.specs.Bitmap.{lentAs};
+ghost use Rattle.laws.specs.Groups.{gridRows, dataRows, earlierRows};
 use bitmap::bitmap_at;
 use bitmap::bitmap_bad;
 use bitmap::present;

@@ -8,9 +8,9 @@ use borrow.Author.Tests.{le-leb, leb-true}
 use lib.Dec.{leb, ltb}
 use lib.ListN.{length, take, drop}
 use lib.Seq.{take-at}
-use Rattle.bits.specs.Bits.{bitsIn, run, runs, octetsFor, putAt, packedInto}
+use Rattle.bits.specs.Bits.{bitsIn, run, runs, octetsFor, putAt, packedInto, Wide}
 use Rattle.bits.proofs.Runs.{bitsIn-bits}
-use Rattle.bits.proofs.Trip.{Wide, Padded, read-back, write-back, length-runs, wide-runs}
+use Rattle.bits.proofs.Trip.{Padded, read-back, write-back, length-runs, wide-runs}
 use Rattle.bits.proofs.Kept.{put-back}
 use Rattle.bits.proofs.Tests.{and-left}
 use Rattle.runs.specs.Take.{fetched, unpackFits, unpacked}

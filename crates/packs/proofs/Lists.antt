@@ -8,8 +8,7 @@ use native.Mathlib.Omega.{arith}
 use borrow.Author.Tests.{leb-true, ltb-true, lt-ltb, le-leb}
 use lib.Dec.{leb, ltb}
 use lib.ListN.{length}
-use Rattle.bits.specs.Bits.{octetsFor, packedInto}
-use Rattle.bits.proofs.Trip.{Wide}
+use Rattle.bits.specs.Bits.{octetsFor, packedInto, Wide}
 use Rattle.bits.proofs.Tests.{and-left, and-right}
 use Rattle.widths.specs.Below.{allBelow}
 use Rattle.widths.proofs.Lists.{below-wide, wide-below}

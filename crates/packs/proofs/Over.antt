@@ -9,10 +9,10 @@ use lib.ListN.{length, getD, take, drop, take-append-drop}
 use lib.Seq.{take-at, drop-at, take-append-le, drop-append-add, drop-drop, length-take-le, take-length, take-add}
 use lib.Arith.{digits-lt}
 use lib.Pow.{pow-pos, pow-add, high, low, shl-shr, mod-pow-add, mod-mod-pow}
-use Rattle.bits.specs.Bits.{bitsIn, run, runs, octetsFor, packedInto, numberAt}
+use Rattle.bits.specs.Bits.{bitsIn, run, runs, octetsFor, packedInto, numberAt, Wide}
 use Rattle.bits.specs.Tables.{tab}
 use Rattle.bits.proofs.Runs.{Bits, bitsIn-bits, run-split, run-lt, run-ext, run-unit, next, next-le}
-use Rattle.bits.proofs.Trip.{Wide, length-runs, runs-ext, bits-past, runs-own}
+use Rattle.bits.proofs.Trip.{length-runs, runs-ext, bits-past, runs-own}
 use Rattle.bits.proofs.Next.{bits-left}
 use Rattle.bits.proofs.Placed.{run-zero, runs-split, runs-number, wide-take}
 use Rattle.packs.specs.Cover.{cover, over, Put}

@@ -9,9 +9,9 @@ use native.Mathlib.Omega.{arith}
 use lib.ListN.{length, getD, take, drop, length-append, take-append-drop}
 use lib.Pow.{shl-exact}
 use lib.Seq.{take-at, take-append-le, drop-append-add, drop-drop, length-take-le}
-use Rattle.bits.specs.Bits.{bitOf, bitsIn, run, runs, octetsFor, packedInto, numberAt}
+use Rattle.bits.specs.Bits.{bitOf, bitsIn, run, runs, octetsFor, packedInto, numberAt, Wide}
 use Rattle.bits.proofs.Runs.{bitsIn-bits, run-split, run-ext, run-unit, run-lt, run-below, next, lt-or-ge}
-use Rattle.bits.proofs.Trip.{Wide, length-runs, runs-ext}
+use Rattle.bits.proofs.Trip.{length-runs, runs-ext}
 use Rattle.bits.proofs.Placed.{run-zero, runs-split, runs-number}
 use Rattle.packs.proofs.Over.{bits-first, bits-none, take-runs}
 

@@ -2,12 +2,11 @@
 // numbers are stored at once. Wider, four octets are stored at each one's place, and the four after the data, which the
 // last stores may touch, are read first and put back.
 ghost use mathlib.Core.Path.{_≡_};
-ghost use Prim.Native.Nat.{ℕ, _+_, _*_, _/_, _^_, _<_, _≤_};
-ghost use mathlib.Core.List.{List};
-ghost use lib.ListN.{getD, length, take};
-ghost use Rattle.bits.specs.Bits.{bitsIn, run, octetsFor, packedInto};
+ghost use Prim.Native.Nat.{_+_, _*_, _/_, _^_, _<_, _≤_};
+ghost use lib.ListN.{length};
+ghost use Rattle.bits.specs.Bits.{bitsIn, run, octetsFor, packedInto, Wide};
 ghost use Rattle.packs.specs.Cover.{over, Put};
-ghost use Rattle.packs.specs.Pack.{packFits, packed};
+ghost use Rattle.packs.specs.Pack.{packFits, packed, PacksOn};
 use crate::fields::placed;
 use crate::words::store;
 use octets::four;
@@ -16,7 +15,7 @@ use widths::all_below;
 // Up to eight numbers more, from number i on, which starts octet k: those before it are put.
 fn pack_some(vs: &[u32], n: usize, out: &mut [u8], k: usize, i: usize, c: usize)
     requires { ⌜ n ≤ 24 ⌝ }
-    requires { ⌜ ((k : ℕ) → getD (now vs) k 0 < 2 ^ n) ⌝ }
+    requires { ⌜ Wide n (now vs) ⌝ }
     requires { ⌜ length (now vs) * n / 8 + 4 ≤ length (now out) ⌝ }
     requires { ⌜ (k * 8 ≡ i * n) × (i + c ≤ length (now vs)) × (c ≤ 8) ⌝ }
     ensures { λ _. ⌜ Put (now (vs .entry)) n (now (out .entry)) i (now (out .exit)) (i + c) ⌝ }
@@ -35,7 +34,7 @@ fn pack_some(vs: &[u32], n: usize, out: &mut [u8], k: usize, i: usize, c: usize)
 // Eight numbers fill n octets, and each eight start anew.
 fn pack_over(vs: &[u32], n: usize, out: &mut [u8])
     requires { ⌜ n ≤ 24 ⌝ }
-    requires { ⌜ ((k : ℕ) → getD (now vs) k 0 < 2 ^ n) ⌝ }
+    requires { ⌜ Wide n (now vs) ⌝ }
     requires { ⌜ length (now vs) * n / 8 + 4 ≤ length (now out) ⌝ }
     ensures { λ _. ⌜ now (out .exit) ≡ over n (now (vs .entry)) (length (now (vs .entry))) (now (out .entry)) ⌝ }
 {
@@ -52,12 +51,11 @@ fn pack_over(vs: &[u32], n: usize, out: &mut [u8])
 // One by one, from number `from` on, the ones before it being packed.
 fn pack_rest(vs: &[u32], n: usize, out: &mut [u8], from: usize)
     requires { ⌜ n ≤ 32 ⌝ }
-    requires { ⌜ ((k : ℕ) → getD (now vs) k 0 < 2 ^ n) ⌝ }
+    requires { ⌜ Wide n (now vs) ⌝ }
     requires { ⌜ length (now vs) * n < 2 ^ 64 ⌝ }
     requires { ⌜ octetsFor (length (now vs) * n) ≤ length (now out) ⌝ }
     requires { ⌜ from ≤ length (now vs) ⌝ }
-    ensures { λ _. ⌜ ((d : List ℕ) → now (out .entry) ≡ packedInto n (take from (now (vs .entry))) d → now (out .exit)
-        ≡ packedInto n (now (vs .entry)) d) ⌝ }
+    ensures { λ _. ⌜ PacksOn n from (now (vs .entry)) (now (out .entry)) (now (out .exit)) ⌝ }
 {
     let mut i = from;
     let mut place = from * n;
@@ -72,7 +70,7 @@ fn pack_rest(vs: &[u32], n: usize, out: &mut [u8], from: usize)
 // does too: a shift by a width that is not known takes the machine longer.
 fn eight(vs: &[u32], i: usize, n: usize) -> u64
     requires { ⌜ n ≤ 8 ⌝ }
-    requires { ⌜ ((k : ℕ) → getD (now vs) k 0 < 2 ^ n) ⌝ }
+    requires { ⌜ Wide n (now vs) ⌝ }
     requires { ⌜ i + 8 ≤ length (now vs) ⌝ }
     ensures { λ r. ⌜ r ≡ run (bitsIn n (now (vs .entry))) (i * n) (8 * n) ⌝ }
 {
@@ -90,7 +88,7 @@ fn eight(vs: &[u32], i: usize, n: usize) -> u64
 // and those past the n stored over later.
 fn pack_small(vs: &[u32], n: usize, out: &mut [u8])
     requires { ⌜ n ≤ 8 ⌝ }
-    requires { ⌜ ((k : ℕ) → getD (now vs) k 0 < 2 ^ n) ⌝ }
+    requires { ⌜ Wide n (now vs) ⌝ }
     requires { ⌜ length (now vs) * n + 7 < 2 ^ 64 ⌝ }
     requires { ⌜ octetsFor (length (now vs) * n) ≤ length (now out) ⌝ }
     ensures { λ _. ⌜ now (out .exit) ≡ packedInto n (now (vs .entry)) (now (out .entry)) ⌝ }
@@ -114,7 +112,7 @@ fn pack_small(vs: &[u32], n: usize, out: &mut [u8])
 // Over what follows the data where that is four octets or more, which are then put back.
 fn pack_all(vs: &[u32], n: usize, out: &mut [u8])
     requires { ⌜ n ≤ 24 ⌝ }
-    requires { ⌜ ((k : ℕ) → getD (now vs) k 0 < 2 ^ n) ⌝ }
+    requires { ⌜ Wide n (now vs) ⌝ }
     requires { ⌜ length (now vs) * n + 7 < 2 ^ 64 ⌝ }
     requires { ⌜ octetsFor (length (now vs) * n) ≤ length (now out) ⌝ }
     ensures { λ _. ⌜ now (out .exit) ≡ packedInto n (now (vs .entry)) (now (out .entry)) ⌝ }

@@ -5,7 +5,7 @@ use mathlib.Core.List.{List, [], _∷_, _++_}
 use lib.Dec.{ltb, eqb}
 use lib.IntN.{pos}
 use lib.ListN.{length, getD}
-use Rattle.rules.specs.declared.{Refusal.Refusal, Signed.Signed, Part.Part, Places.Places, Found.Found}
+use Rattle.rules.specs.declared.{Refusal.Refusal, Signed.Signed, Part.Part, Found.Found}
 use Rattle.rules.specs.declared.{Found.the-variants.Nothing, Found.the-variants.Given, Bitmap.Bitmap}
 use Rattle.rules.specs.declared.{Bitmap.the-variants.Without, Packing.Packing, Scale.Scale, Parsed.Parsed}
 use Rattle.rules.specs.declared.{Header.Header}
@@ -93,31 +93,6 @@ messageTable s lent =
     ∷ row 12 (lengthBad s (placesOf s .bds) (presentCount s lent) (packingIn s))
     ∷ []
 
--- its rows 1 to 11 in three groups, over what was read before, as code judges them (laws: RowsInGroups). Each test can
--- be judged once those above it have passed: then none reads past its section
-unfoldable pub layoutRows : List ℕ → Places → List Row
-layoutRows s p =
-    row 1 (sizeBad s)
-    ∷ row 2 (gribBad s)
-    ∷ row 3 (editionBad s)
-    ∷ row 4 (anyOf (totalFaults s))
-    ∷ row 5 (anyOf (placesFaults (endStart s) (hasGrid s pdsStart) (hasBitmap s pdsStart) p))
-    ∷ row 6 (anyOf (timeFaults s pdsStart))
-    ∷ []
-
-unfoldable pub gridRows : List ℕ → Places → Found → List Row
-gridRows s p found =
-    row 7 (gridMissing found)
-    ∷ row 8 (hasGrid s pdsStart && anyOf (gdsFaults s (p .gds)))
-    ∷ row 9 (anyOf (gridFaults (theGrid found)))
-    ∷ []
-
-unfoldable pub dataRows : List ℕ → Lent → Part → Bitmap → ℕ → Packing → List Row
-dataRows s lent bms bitmap n packing =
-    row 10 (anyOf (bitmapFaults s lent bms bitmap n))
-    ∷ row 11 (anyOf (packingFaults packing))
-    ∷ []
-
 -- what is read before it is judged
 unfoldable pub parsedOf : List ℕ → Parsed
 parsedOf s = record {
@@ -128,12 +103,6 @@ parsedOf s = record {
   bitmap = bitmapIn s;
   packing = packingIn s;
 }
-
--- rows 1 to 11: all but the one that asks how many points are present
-unfoldable pub earlierRows : List ℕ → Lent → Parsed → List Row
-earlierRows s lent q =
-    layoutRows s (q .places)
-    ++ (gridRows s (q .places) (q .found) ++ dataRows s lent (q .places .bms) (q .bitmap) (q .points) (q .packing))
 
 -- a refused answer: "its number with all counts and fields zero"
 unfoldable pub refusedBy : Refusal → Header

@@ -5,10 +5,9 @@ use Prim.Native.Nat.{ℕ, _+_, _*_, _/_, _%_}
 use native.Mathlib.Nat.{add-zero}
 use native.Mathlib.Omega.{arith}
 use lib.ListN.{getD}
-use Rattle.bits.specs.Bits.{bitsIn, run}
+use Rattle.bits.specs.Bits.{bitsIn, run, Wide}
 use Rattle.bits.proofs.Runs.{bitsIn-bits, run-octet, run-field}
 use Rattle.bits.proofs.Words.{run-two}
-use Rattle.bits.proofs.Trip.{Wide}
 
 -- at an octet's start, and in the middle of the one after it
 pub at-start : (s : List ℕ) (k : ℕ) → Wide 8 s → getD s k 0 * 16 + getD s (k + 1) 0 / 16 ≡ run (bitsIn 8 s) (k * 8) 12

@@ -10,11 +10,11 @@ use native.Mathlib.Nat.{zero-add}
 use borrow.Author.Tests.{ne-eqb, le-ltb, ltb-false, eq-eqb}
 use lib.ListN.{length, take, drop}
 use lib.Dec.{T, eqb}
-use Rattle.bits.specs.Bits.{bitsIn, runs, octetsFor}
+use Rattle.bits.specs.Bits.{bitsIn, runs, octetsFor, Wide}
 use Rattle.bits.specs.Tables.{tab}
 use Rattle.bits.proofs.Runs.{Bits, bitsIn-bits, lt-or-ge}
 use Rattle.bits.proofs.Fill.{length-tab}
-use Rattle.bits.proofs.Trip.{Wide, length-runs, bits-runs, bits-past}
+use Rattle.bits.proofs.Trip.{length-runs, bits-runs, bits-past}
 use Rattle.bits.proofs.Cut.{cut, bits-drop, bits-take, octets-here}
 use Rattle.bits.proofs.Marks.{wide-tab, mark-bit, zeros-of}
 use Rattle.bits.proofs.Ones.{count-zero}

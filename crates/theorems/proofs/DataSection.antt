@@ -11,9 +11,9 @@ use borrow.Author.Tests.{ne-eqb, eqb-false}
 use lib.ListN.{length, take, drop}
 use lib.Seq.{take-length}
 use lib.IntN.{natAbs}
-use Rattle.bits.specs.Bits.{bitsIn, runs}
+use Rattle.bits.specs.Bits.{bitsIn, runs, Wide}
 use Rattle.bits.proofs.Runs.{bitsIn-bits, lt-or-ge}
-use Rattle.bits.proofs.Trip.{Wide, length-runs, runs-ext, bits-runs, bits-past, runs-own, wide-runs}
+use Rattle.bits.proofs.Trip.{length-runs, runs-ext, bits-runs, bits-past, runs-own, wide-runs}
 use Rattle.bits.proofs.Cut.{cut, bits-drop, octets-here}
 use Rattle.bits.proofs.Marks.{zeros-of}
 use Rattle.bits.proofs.Ones.{count-zero}

@@ -8,7 +8,6 @@ use native.Mathlib.Omega.{arith}
 use borrow.Author.Tests.{eqb-false}
 use lib.ListN.{length, drop}
 use lib.Dec.{eqb}
-use Rattle.bits.proofs.Trip.{Wide}
 use Rattle.rules.specs.declared.{Signed.Signed, Part.Part, Grid.Grid, Found.Found, Found.the-variants.Nothing}
 use Rattle.rules.specs.declared.{Found.the-variants.Given}
 use Rattle.rules.specs.Bounds.{gdsLeast, gdsLength, latitudeMost, longitudeMost}
@@ -26,6 +25,7 @@ use Rattle.laws.proofs.Whole.{within}
 use Rattle.laws.specs.Signs.{SignFree}
 use Rattle.laws.proofs.Signs.{signed-read, spelled-lt, plus, signed-here}
 use Rattle.theorems.proofs.Laid.{Sec, empty-sec, whole-sec, partIs}
+use Rattle.bits.specs.Bits.{Wide}
 
 -- what of a grid the writer's row 9 and the fields' types leave
 pub record GridOk (g : Grid) : Type 0 where

@@ -10,10 +10,10 @@ use lib.Dec.{T, eqb}
 use lib.IntN.{natAbs}
 use lib.ListN.{length, getD, take, drop, length-drop}
 use lib.Seq.{getD-take, getD-drop, length-take-le}
-use Rattle.bits.specs.Bits.{bitsIn, octetsFor}
+use Rattle.bits.specs.Bits.{bitsIn, octetsFor, Wide}
 use Rattle.bits.proofs.Runs.{Bits, bitsIn-bits, run-lt}
 use Rattle.bits.proofs.Fill.{length-tab, getD-tab}
-use Rattle.bits.proofs.Trip.{Wide, length-runs, wide-runs}
+use Rattle.bits.proofs.Trip.{length-runs, wide-runs}
 use Rattle.bits.proofs.Below.{no-below}
 use Rattle.bits.proofs.Cut.{bits-take, run-part}
 use Rattle.bits.proofs.Marks.{wide-tab}

@@ -14,8 +14,8 @@ use lib.ListN.{length, getD, List·getD-eq-default}
 use Rattle.bits.specs.Tables.{anyBelow}
 use Rattle.bits.proofs.Runs.{lt-or-ge}
 use Rattle.bits.proofs.Below.{none-below, no-below}
-use Rattle.bits.proofs.Trip.{Wide}
 use Rattle.widths.specs.Below.{allBelow}
+use Rattle.bits.specs.Bits.{Wide}
 
 -- none of the numbers has a bit that all of them together have not
 pub or-below : (a b n : ℕ) → ltb (bitOr a b) (2 ^ n) ≡ ltb a (2 ^ n) && ltb b (2 ^ n)

@@ -2,6 +2,7 @@
 use Prim.Native.Nat.{ℕ}
 use mathlib.Core.Bool.{Bool, not, _&&_, _||_}
 use mathlib.Core.List.{List, [], _∷_, _++_}
+use mathlib.Core.Path.{_≡_}
 use Rattle.rules.specs.declared.{Form.Form, Found.Found, Packing.Packing, Scale.Scale}
 use lib.Dec.{ltb, eqb}
 use lib.ListN.{length}
@@ -15,6 +16,10 @@ use Rattle.rules.specs.Grid.{gridMissing, theGrid, gridFaults}
 use Rattle.rules.specs.Bitmap.{Lent, bitmapGiven, markOf, valueOf, markOdd}
 use Rattle.rules.specs.Values.{packingFaults}
 use Rattle.rules.specs.Writing.{pdsFaults, listsFit, storedFaults, gridGiven, pointBad, differ}
+
+-- what holds for any so many values: the rows before 13 ask of them only how many there are
+abbrev pub ForAny : ℕ → (List ℕ → Type 0) → Type 0
+ForAny long P = (values : List ℕ) → length values ≡ long → P values
 
 -- 5, 6, 7 and 9: the PDS, and the grid found
 unfoldable pub frontRows : List ℕ → Found → List Row

@@ -1,8 +1,6 @@
 // Rows 5 to 13 of the writer's table over the parts given: which message may be written.
 ghost use mathlib.Core.Path.{_≡_};
 ghost use mathlib.Core.Bool.{_&&_};
-ghost use mathlib.Core.List.{List};
-ghost use Prim.Native.Nat.{ℕ};
 ghost use lib.Dec.{eqb};
 ghost use lib.ListN.{length};
 ghost use Rattle.rules.specs.declared.Bitmap.the-variants.{Stored};
@@ -14,7 +12,7 @@ ghost use Rattle.rules.specs.Bitmap.{bitmapGiven, marksLong, lentAs};
 ghost use Rattle.rules.specs.Writing.{pdsFaults, storedFaults, gridGiven};
 ghost use Rattle.marks.specs.Marks.{strays};
 ghost use Rattle.writable.specs.Rows.{frontRows, exponentFaults, middleRows, earlyRows, pointsBad, listFaults};
-ghost use Rattle.writable.specs.Rows.{ownRows};
+ghost use Rattle.writable.specs.Rows.{ownRows, ForAny};
 
 mod unlisted; // unlisted.rt: the same by the marks alone, of values in no list
 
@@ -71,8 +69,8 @@ pub(crate) fn lists_fit(many: usize, marks: &[u8], n: u32) -> bool
 
 // 10, of a form that wants the stored bitmap of a number.
 fn store_bad(number: u16, store: &[u8], wanted: u16, long: usize, marks: &[u8], n: u32) -> bool
-    ensures { λ r. ⌜ ((values : List ℕ) → length values ≡ long → r
-        ≡ anyOf (storedFaults (Stored wanted) (lentAs number (now (store .entry))) values (now (marks .entry)) n)) ⌝ }
+    ensures { λ r. ⌜ ForAny long (λ values. r ≡
+        anyOf (storedFaults (Stored wanted) (lentAs number (now (store .entry))) values (now (marks .entry)) n)) ⌝ }
 {
     if (wanted == 0) | (number != wanted) | (store.len() < (n as usize + 7) / 8) {
         return true;
@@ -85,8 +83,8 @@ fn store_bad(number: u16, store: &[u8], wanted: u16, long: usize, marks: &[u8], 
 
 // 10, of values whose list is so long.
 fn stored_bad(bitmap: Bitmap, number: u16, store: &[u8], long: usize, marks: &[u8], n: u32) -> bool
-    ensures { λ r. ⌜ ((values : List ℕ) → length values ≡ long → r
-        ≡ anyOf (storedFaults bitmap (lentAs number (now (store .entry))) values (now (marks .entry)) n)) ⌝ }
+    ensures { λ r. ⌜ ForAny long (λ values. r ≡
+        anyOf (storedFaults bitmap (lentAs number (now (store .entry))) values (now (marks .entry)) n)) ⌝ }
 {
     match bitmap {
         Bitmap::Without => false,
@@ -119,8 +117,8 @@ fn middle(
     marks: &[u8],
     n: u32,
 ) -> Refusal
-    ensures { λ r. ⌜ ((values : List ℕ) → length values ≡ long → r
-        ≡ first (middleRows form scale (lentAs number (now (store .entry))) values (now (marks .entry)) n)) ⌝ }
+    ensures { λ r. ⌜ ForAny long (λ values. r ≡
+        first (middleRows form scale (lentAs number (now (store .entry))) values (now (marks .entry)) n)) ⌝ }
 {
     let bitmap = form.bitmap;
     refuse(
@@ -142,8 +140,8 @@ pub(crate) fn judge_early(
     found: Found,
     n: u32,
 ) -> Refusal
-    ensures { λ r. ⌜ ((values : List ℕ) → length values ≡ long → r
-        ≡ first
+    ensures { λ r. ⌜ ForAny long (λ values. r ≡
+        first
         (earlyRows (now (pds .entry)) form scale (lentAs number (now (store .entry))) values (now (marks .entry)) found
         n)) ⌝ }
 {

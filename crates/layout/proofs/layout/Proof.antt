@@ -1,7 +1,7 @@
 -- Rows 1 to 6 as nested refusals: the table opened, call by call.
 use borrow.Author.Needs.{needs}
 use Rattle.rules.specs.Table.{firstOr}
-use Rattle.rules.specs.Reading.{layoutRows}
+use Rattle.laws.specs.Groups.{layoutRows}
 use Rattle.layout.proofs.layout.Statement.{statement}
 use Rattle.layout.proofs.layout.Tie as tie
 

@@ -1,6 +1,6 @@
 -- Rows 10 and 11 as nested refusals: the table opened, call by call.
 use Rattle.rules.specs.Table.{firstOr}
-use Rattle.rules.specs.Reading.{dataRows}
+use Rattle.laws.specs.Groups.{dataRows}
 use borrow.Author.Needs.{needs}
 use Rattle.message.proofs.data_judged.Statement.{statement}
 use Rattle.message.proofs.data_judged.Tie as tie

@@ -1,6 +1,6 @@
 -- Rows 7 to 9 as nested refusals: the table opened, call by call.
 use Rattle.rules.specs.Table.{firstOr}
-use Rattle.rules.specs.Reading.{gridRows}
+use Rattle.laws.specs.Groups.{gridRows}
 use borrow.Author.Needs.{needs}
 use Rattle.message.proofs.grid_judged.Statement.{statement}
 use Rattle.message.proofs.grid_judged.Tie as tie

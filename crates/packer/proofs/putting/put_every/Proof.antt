@@ -8,9 +8,8 @@ use lib.ListN.{length}
 use mir.Syntax.{w32}
 use mir.Val.{toZ, ofZ}
 use mir.Facts.{toZ-ofZ}
-use Rattle.bits.specs.Bits.{octetsFor, packedInto}
+use Rattle.bits.specs.Bits.{octetsFor, packedInto, Wide}
 use Rattle.bits.specs.Tables.{tab}
-use Rattle.bits.proofs.Trip.{Wide}
 use Rattle.steps.specs.Steps.{stepOf}
 use Rattle.steps.proofs.Near.{steps-part}
 use Rattle.blocks.specs.Passed.{Passed}

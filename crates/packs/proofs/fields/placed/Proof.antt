@@ -4,8 +4,7 @@ use Prim.Native.Nat.{ℕ, _+_, _*_, _-_, _/_, _%_, _^_, _<_}
 use native.Mathlib.Nat.{add-zero}
 use native.Mathlib.Omega.{arith}
 use lib.ListN.{getD}
-use Rattle.bits.specs.Bits.{run, numberAt}
-use Rattle.bits.proofs.Trip.{Wide}
+use Rattle.bits.specs.Bits.{run, numberAt, Wide}
 use Rattle.bits.proofs.Placed.{F, add-fits, machine, all-lt, put-law}
 use borrow.Author.Needs.{needs}
 use Rattle.packs.proofs.fields.placed.Statement.{statement}
