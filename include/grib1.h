@@ -60,7 +60,8 @@ extern "C" {
 #define GRIB1_MISSING 65535
 
 /* The most octets of stack that a call takes, its arguments and its return address among them: measured over many calls
- * (tests/stack) and rounded up. Those that write, pack or check hold 256 values at a time. */
+ * (tests/stack) and rounded up. Those that write, pack or check hold 256 values at a time. A loader that binds late may
+ * take more at a program's first call. */
 #define GRIB1_STACK_HEADER 1280
 #define GRIB1_STACK_READ 1536
 #define GRIB1_STACK_SECTION 1280

@@ -19,7 +19,7 @@ use Rattle.laws.proofs.Rows.{is-true}
 use Rattle.theorems.proofs.Replies.{refusal-keeps}
 use Rattle.theorems.proofs.Told.{read-tells}
 use Rattle.theorems.proofs.Returned.{read-after-write}
-use Rattle.theorems.proofs.WriteBack.{write-after-read}
+use Rattle.theorems.proofs.Calls.{read-then-write}
 use Rattle.theorems.proofs.Points.{value-at-point, read-keeps}
 use Rattle.theorems.proofs.Reoffered.{points-for}
 use Rattle.theorems.proofs.Checked.{check-exactly}
@@ -75,7 +75,7 @@ back w out gf nf rf a =
 
 again : WritesBack ours
 unfolding writeOf lengthOf
-again s out lent below t c room = write-after-read s out lent below t c room
+again s out lent values marks below t c rv rm room = read-then-write s out lent values marks below t c rv rm room
 
 checks : ChecksExactly ours
 checks = check-exactly

@@ -10,7 +10,7 @@ use lib.ListN.{length, drop}
 use Rattle.bits.specs.Bits.{count}
 use Rattle.rules.specs.declared.{Refusal.Refusal, Header.Header, Form.Form, Written.Written}
 use Rattle.rules.specs.Table.{refusal, accepted, first}
-use Rattle.rules.specs.Bitmap.{Lent}
+use Rattle.rules.specs.Bitmap.{Lent, marksLong}
 use Rattle.rules.specs.Reading.{pointsIn, presentIn, refusedBy, readTable}
 use Rattle.rules.specs.Writing.{Parts, pointsFor, writeTable}
 use Rattle.rules.specs.RoundTrip.{partsIn, canonical}
@@ -18,7 +18,7 @@ use Rattle.rules.specs.Checking.{Source, checkTable}
 use Rattle.rules.specs.Packing.{packTable}
 use Rattle.laws.specs.Taken.{Taken}
 use Rattle.theorems.specs.Reads.{LeftAt, Told}
-use Rattle.theorems.specs.Returns.{Below, GridFits, NumberFits, handed}
+use Rattle.theorems.specs.Returns.{Below, GridFits, NumberFits, handed, partsFrom}
 use Rattle.theorems.specs.Checks.{Passes, Packable}
 
 -- what is answered, and what becomes of the lent lists: reading a message with a bitmap lent into two lists, writing
@@ -100,11 +100,15 @@ ReadsBack c =
     → Returns c w (handed (c .write w out) (c .output w out))
 
 -- "Reading and then writing gives the same octets when padding and reserved octets are zero and no signed field .. is
--- minus zero"
+-- minus zero": what the codec itself hands out of a message, written by it
 abbrev pub WritesBack : Codec → Type 0
 WritesBack c =
-    (s out : List ℕ) (lent : Lent) → Below 256 s → Taken s lent → T (canonical s lent) → length s ≤ length out
-    → let w = partsIn s lent in T (accepted (c .write w out .refusal)) × (handed (c .write w out) (c .output w out) ≡ s)
+    (s out : List ℕ) (lent : Lent) (values marks : List ℕ) → Below 256 s → Taken s lent → T (canonical s lent)
+    → pointsIn s ≤ length values → marksLong (pointsIn s) ≤ length marks → length s ≤ length out
+    → let h = c .read s lent values marks in
+    let w = partsFrom s lent h (c .values s lent values marks) (c .marks s lent values marks) in
+    (h .refusal ≡ refusal 0) × T (accepted (c .write w out .refusal))
+    × (handed (c .write w out) (c .output w out) ≡ s)
 
 -- Demand 3: "It says yes exactly when .."
 abbrev pub ChecksExactly : Codec → Type 0
