@@ -99,6 +99,8 @@ def judge(crate, label, path):
             by_itself = reply.startswith("not proved") and errors or reply.startswith("no proof") and "does not close" in reply
             if not by_itself:
                 wrong.append(f"{edit}: {answer.name}: {name} is not refused by its own proof: {reply}")
+            if errors and all("binders" in error for error in errors):
+                wrong.append(f"{edit}: {answer.name}: refused for the shape of its proof alone")
             for error in errors:
                 if MISSHAPEN.search(error):
                     wrong.append(f"{edit}: {answer.name}: not a fact: {error[:200]}")

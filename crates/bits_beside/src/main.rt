@@ -208,7 +208,7 @@ fn beside(n: u8, o: u8) -> u32
         + put_differs(&before, n, 16 + o as u32, v, &mut after)
 }
 
-// Every function of bits beside its bit-by-bit reading, at each width and offset.
+// Every check at each width and offset, and at how many of these pairs nothing differs.
 fn main() {
     let mut agree: u64 = 0;
     let mut n: u8 = 0;

@@ -113,7 +113,7 @@ fn section_bad(end: usize, least: u32, p: Part) -> bool
         | (end < p.start as usize + p.len as usize)
 }
 
-// Refusal 5: a length is odd or under its least, or a section passes the end or falls short of it.
+// Refusal 5: a length is odd or out of its bounds, or the sections pass the end or fall short of it.
 fn places_bad(end: usize, grid: bool, bitmap: bool, p: Places) -> bool
     ensures { λ r. ⌜ r ≡ anyOf (placesFaults end grid bitmap p) ⌝ }
 {

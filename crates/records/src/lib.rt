@@ -119,7 +119,7 @@ fn bitmap_number(bitmap: Bitmap) -> u16
     }
 }
 
-// A signed number without its sign bit.
+// The value of a signed field.
 fn value(z: Signed) -> i32
     ensures { λ r. ⌜ r ≡ z .value ⌝ }
 {

@@ -79,7 +79,7 @@ abbrev pub LaterStay : Codec → Type 0
 LaterStay c =
     (s : List ℕ) (lent : Lent) (values marks : List ℕ) → ReadBy c s lent values marks
     → (drop (pointsIn s) (c .values s lent values marks) ≡ drop (pointsIn s) values)
-    × (drop (pointsIn s) (c .marks s lent values marks) ≡ drop (pointsIn s) marks)
+    × (drop (marksLong (pointsIn s)) (c .marks s lent values marks) ≡ drop (marksLong (pointsIn s)) marks)
 
 -- "One that invents the present count: it equals the bitmap's ones"
 abbrev pub CountsPresent : Codec → Type 0
