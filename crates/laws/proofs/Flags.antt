@@ -1,7 +1,7 @@
 -- The bits of an octet as the comparisons that code makes: by arithmetic, and of the four flags by trying each half of
 -- an octet.
 use Prim.Native.Nat.{ℕ, _*_, _/_, _%_, _≤_, _<_}
-use mathlib.Core.Bool.{Bool, true, false, not, _||_, cond}
+use mathlib.Core.Bool.{Bool, true, false, not, _||_}
 use mathlib.Core.Path.{_≡_, refl, sym, _∙_, ap, ap₂}
 use native.Mathlib.Omega.{arith}
 use borrow.Author.Tests.{leb-true, leb-false, eq-eqb, ne-eqb}
@@ -13,6 +13,7 @@ use Rattle.rules.specs.Bounds.{bitsMost}
 use Rattle.rules.specs.Numbers.{bit}
 use Rattle.rules.specs.Table.{orAll, anyOf}
 use Rattle.rules.specs.Values.{flagsBad, packingFaults}
+use Rattle.rules.specs.Writing.{differ}
 
 -- two tests that say the same
 tests : (a b u v : ℕ) → (a ≤ b → u ≡ v) → (b < a → u ≡ v → ⊥) → leb a b ≡ eqb u v
@@ -42,16 +43,14 @@ read-1 x y e l = bit-1 x l ∙ ap (bit 1) e
 pub read-2 : (x y : ℕ) → x ≡ y → leb 64 (x % 128) ≡ bit 2 y
 read-2 x y e = bit-2 x ∙ ap (bit 2) e
 
--- of the four flags bit 3 is worth 2
-abbrev apart : Bool → Bool → Bool
-apart a b = cond a (not b) b
-
-alike : (a b : Bool) → apart a b ≡ false → a ≡ b
+-- tests that do not differ are the same
+pub alike : (a b : Bool) → differ a b ≡ false → a ≡ b
 alike true true e = refl
 alike true false e = e
 alike false true e = sym e
 alike false false e = refl
 
+-- of the four flags bit 3 is worth 2
 pub flags-bad : (flags : ℕ) → not (eqb flags 0 || eqb flags 2) ≡ flagsBad flags
 unfolding anyBelow flagsBad bit
 flags-bad flags = go (leb 16 flags) refl
@@ -63,7 +62,8 @@ flags-bad flags = go (leb 16 flags) refl
         (ne-eqb flags 2 (λ z. omega (arith, l, z)))
         ∙ sym (ap (λ (t : Bool). t || bit 1 (flags * 16) || bit 2 (flags * 16) || bit 4 (flags * 16)) e)
     go false e =
-        alike _ _ (none-below (λ f. apart (not (eqb f 0 || eqb f 2)) (flagsBad f)) 16 refl flags (leb-false 16 flags e))
+        alike _ _
+        (none-below (λ f. differ (not (eqb f 0 || eqb f 2)) (flagsBad f)) 16 refl flags (leb-false 16 flags e))
 
 -- and so row 11
 pub packing-read : (p : Packing)

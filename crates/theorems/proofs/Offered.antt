@@ -27,7 +27,7 @@ use Rattle.rules.specs.Bitmap.{Lent, bitmapGiven, markOf, marksLong, valueOf, l
 use Rattle.rules.specs.Points.{gathered}
 use Rattle.rules.specs.Values.{packingFaults}
 use Rattle.rules.specs.Writing.{Parts, gridFor, pointsFor, pdsFaults, listsFit, storedFaults, gridGiven, pointBad}
-use Rattle.rules.specs.Writing.{differ, partsFaults, message, writeTable, writeRefusal}
+use Rattle.rules.specs.Writing.{partsFaults, message, writeTable, writeRefusal}
 use Rattle.laws.specs.Tables.{Clear}
 use Rattle.theorems.specs.Returns.{NumberFits}
 use Rattle.bits.proofs.Tests.{both}
@@ -36,6 +36,7 @@ use Rattle.laws.proofs.Whole.{within}
 use Rattle.theorems.proofs.Laid.{Sec, whole-sec}
 use Rattle.laws.proofs.Gathered.{length-gathered, wide-gathered}
 use Rattle.laws.proofs.Points.{flags-two, PointOk, point-ok, even-marks}
+use Rattle.laws.proofs.Flags.{alike}
 use Rattle.theorems.proofs.DataSection.{DataOk}
 use Rattle.theorems.proofs.BitmapSection.{MapOk}
 
@@ -65,12 +66,6 @@ unfolding writeRefusal writeTable
 unoffered w out h =
     accepts (writeTable w out)
     (h .pds, (h .time, (h .found, (h .grid, (h .stored, (h .packing, (h .parts, (h .room, tt))))))))
-
-same : (a b : Bool) → differ a b ≡ false → a ≡ b
-same true true e = refl
-same true false e = e
-same false true e = sym e
-same false false e = refl
 
 map-of : (m : Bitmap) (lent : Lent) (values marks : List ℕ) (n : ℕ) → NumberFits m → listsFit values marks n ≡ true
     → anyOf (storedFaults m lent values marks n) ≡ false
@@ -160,11 +155,11 @@ module _ (w : Parts) (out : List ℕ) (nf : NumberFits (w .form .bitmap)) (rf : 
 
   pub has-grid : hasGrid (w .pds) 0 ≡ gridGiven (w .form .grid)
   unfolding partsFaults
-  has-grid = same _ _ (none-of _ (o .parts) .1 .1 .1 .0)
+  has-grid = alike _ _ (none-of _ (o .parts) .1 .1 .1 .0)
 
   pub has-bitmap : hasBitmap (w .pds) 0 ≡ bitmapGiven (w .form .bitmap)
   unfolding partsFaults
-  has-bitmap = same _ _ (none-of _ (o .parts) .1 .1 .1 .1 .0)
+  has-bitmap = alike _ _ (none-of _ (o .parts) .1 .1 .1 .1 .0)
 
   -- a list n long is 0 past its end
   past : (xs : List ℕ) (top i : ℕ) → length xs ≡ pointsFor w → 0 < top → (i < pointsFor w → valueOf xs i < top)
