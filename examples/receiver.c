@@ -1,4 +1,5 @@
-/* A receiver's main path: a message in, its chart out, row by row from north, as values of the field.
+/* A receiver's main path: a message in, its chart out, row by row from north, as values of the field. A row of a
+ * thinned octant has its own length.
  *
  *   receiver FILE
  */
@@ -6,7 +7,8 @@
 
 #include "grib1.h"
 
-/* Lent to the codec: it has no memory of its own. One octet more than a message may have, so that a longer file is seen to be longer. */
+/* Lent to the codec: it has no memory of its own. One octet more than a message may have, so that a longer file is seen
+ * to be longer. */
 static uint8_t message[GRIB1_MESSAGE_MOST + 1];
 static uint32_t values[GRIB1_POINTS_MOST];
 static uint8_t marks[GRIB1_POINTS_MOST];
@@ -28,16 +30,22 @@ static int draw(size_t len)
     Grib1Header h = grib1_read(message, len, 0, none, 0, values, GRIB1_POINTS_MOST, marks, GRIB1_POINTS_MOST);
     Grib1Display shown = grib1_display(message, len, 0, none, 0);
     uint32_t reply = h.reply != GRIB1_ACCEPTED ? h.reply : shown.reply;
-    uint32_t row, column;
+    uint32_t row, column, columns;
 
     if (reply != GRIB1_ACCEPTED) {
         printf("refused %u\n", (unsigned)reply);
         return 1;
     }
-    printf("%04u-%02u-%02u %02u:%02u, %u by %u, %u of %u points present\n", (unsigned)h.year, (unsigned)h.month, (unsigned)h.day, (unsigned)h.hour,
-        (unsigned)h.minute, (unsigned)h.grid.ni, (unsigned)h.grid.nj, (unsigned)h.present, (unsigned)h.points);
+    printf("%04u-%02u-%02u %02u:%02u, ", (unsigned)h.year, (unsigned)h.month, (unsigned)h.day, (unsigned)h.hour,
+        (unsigned)h.minute);
+    if (h.grid.rows == GRIB1_ROWS_EVEN)
+        printf("%u by %u, ", (unsigned)h.grid.ni, (unsigned)h.grid.nj);
+    else
+        printf("thinned, %u rows, ", (unsigned)h.grid.nj);
+    printf("%u of %u points present\n", (unsigned)h.present, (unsigned)h.points);
     for (row = 0; row < h.grid.nj; row++) {
-        for (column = 0; column < h.grid.ni; column++) {
+        columns = grib1_row(h.grid, row);
+        for (column = 0; column < columns; column++) {
             Grib1Point at = grib1_point(h.grid, row, column);
             if (marks[at.point])
                 printf(" %9.3f", (shown.reference + values[at.point] * shown.step) * ten(-h.d) / ten(h.d));

@@ -30,9 +30,9 @@ extern "C" {
 /* The version of what is declared here. While its first number is 0, a new second number may change a name, a field or
  * a function, and a new third one changes none. */
 #define GRIB1_VERSION_MAJOR 0
-#define GRIB1_VERSION_MINOR 2
+#define GRIB1_VERSION_MINOR 3
 #define GRIB1_VERSION_PATCH 0
-#define GRIB1_VERSION "0.2.0"
+#define GRIB1_VERSION "0.3.0"
 
 /* The rules' bounds, and what to lend. */
 #define GRIB1_MESSAGE_LEAST 8          /* octets of a message */
@@ -40,8 +40,8 @@ extern "C" {
 #define GRIB1_WRITTEN_MOST 205886      /* octets of a message that is written here: out of so many holds any */
 #define GRIB1_PDS_LEAST 28             /* octets of a PDS, an even number */
 #define GRIB1_PDS_MOST 1024
-#define GRIB1_SIDE_MOST 65534          /* ni and nj */
-#define GRIB1_POINTS_MOST 65536        /* ni x nj: values and marks of so many hold any field */
+#define GRIB1_SIDE_MOST 65534          /* ni and nj of a rectangle */
+#define GRIB1_POINTS_MOST 65536        /* points of a grid: values and marks of so many hold any field */
 #define GRIB1_LATITUDE_MOST 90000      /* thousandths of a degree, in magnitude */
 #define GRIB1_LONGITUDE_MOST 360000
 #define GRIB1_BITS_MOST 24             /* N, bits of a value */
@@ -56,24 +56,25 @@ extern "C" {
 #define GRIB1_SCAN_NORTH 64            /* rows run north, else south */
 #define GRIB1_SCAN_BY_COLUMN 32        /* points of one column are consecutive, else of one row */
 
-/* A di or dj that is missing, all ones. */
+/* A di or dj that is missing, and the ni and di of a thinned octant: all ones. */
 #define GRIB1_MISSING 65535
 
 /* The most octets of stack that a call takes, its arguments and its return address among them: measured over many calls
  * (tests/stack) and rounded up. Those that write, pack or check hold 256 values at a time. A loader that binds late may
  * take more at a program's first call. */
-#define GRIB1_STACK_HEADER 1280
-#define GRIB1_STACK_READ 1536
-#define GRIB1_STACK_SECTION 1280
-#define GRIB1_STACK_BITMAP 1280
-#define GRIB1_STACK_DISPLAY 1280
+#define GRIB1_STACK_HEADER 1536
+#define GRIB1_STACK_READ 1792
+#define GRIB1_STACK_SECTION 1536
+#define GRIB1_STACK_BITMAP 1536
+#define GRIB1_STACK_DISPLAY 1536
 #define GRIB1_STACK_PLACE 256
 #define GRIB1_STACK_POINT 256
-#define GRIB1_STACK_DATA_NUMBER 1280
-#define GRIB1_STACK_LENGTH 1280
-#define GRIB1_STACK_WRITE 3328
-#define GRIB1_STACK_CHECK 3584
-#define GRIB1_STACK_PACK 4608
+#define GRIB1_STACK_ROW 256
+#define GRIB1_STACK_DATA_NUMBER 1536
+#define GRIB1_STACK_LENGTH 1536
+#define GRIB1_STACK_WRITE 3584
+#define GRIB1_STACK_CHECK 3840
+#define GRIB1_STACK_PACK 4864
 
 /* What a reply says. The first that applies is given, in number order; grib1_check gives 1 to 12, then 18, 15, 16,
  * 17, and grib1_pack gives 5, 18, 15, 11, 19, then the rest of grib1_write's. */
@@ -89,7 +90,8 @@ enum grib1_reply {
     GRIB1_TIME = 6,            /* time out of its ranges */
     GRIB1_NO_GRID = 7,         /* no GDS, octet 7 not in the catalogue */
     GRIB1_GDS = 8,             /* GDS length or octets 4 to 6 not as the rules say */
-    GRIB1_GRID = 9,            /* Ni, Nj, n, a latitude, a longitude or the scan test outside the rules */
+    GRIB1_GRID = 9,            /* Ni, Nj, n, a latitude, a longitude or the scan test outside the rules, or a thinned
+                                  grid that is none of the eight octants */
     GRIB1_BITMAP = 10,         /* bitmap rule broken, or no such stored bitmap, or (writing, lists n long) one of its
                                   first n bits isn't the same number as the mark */
     GRIB1_PACKING = 11,        /* BDS flag bit 1, 2 or 4 set, N over 24, or (writing) E outside -32,767 to 32,767 */
@@ -113,6 +115,13 @@ enum grib1_bitmap_kind {
     GRIB1_STORED = 2           /* by the stored bitmap of a number */
 };
 
+/* How many points each row of a grid has, in message order. */
+enum grib1_rows {
+    GRIB1_ROWS_EVEN = 0,           /* ni in every row: a rectangle */
+    GRIB1_ROWS_FROM_EQUATOR = 1,   /* those of a thinned octant from the equator on, 73 to 2: grids 37 to 40 */
+    GRIB1_ROWS_FROM_POLE = 2       /* the same from the pole on, 2 to 73: grids 41 to 44 */
+};
+
 /* What is said of a grid point. */
 enum grib1_data_kind {
     GRIB1_OUTSIDE = 0,         /* the grid has no such point, or the message is refused */
@@ -128,24 +137,37 @@ typedef struct {
                                   the section would stand */
 } Grib1Part;
 
-/* A latitude/longitude grid. Latitudes and longitudes are in thousandths of a degree, north and east positive. */
+/* A latitude/longitude grid: a rectangle or a thinned octant. Latitudes and longitudes are in thousandths of a degree,
+ * north and east positive.
+ *
+ * A thinned octant is one of grids 37 to 44: 73 rows and 3,447 points, from 73 in the row at the equator to 2 at the
+ * pole. Its ni and di are GRIB1_MISSING, nj is 73, dj 1250, resolution 128, scan GRIB1_SCAN_NORTH; la1 and la2 are 0
+ * and 90000 of 37 to 40, in the north, and -90000 and 0 of 41 to 44; lo1 and lo2 are 330000 and 60000 of 37 and 41,
+ * 60000 and 150000 of 38 and 42, 150000 and 240000 of 39 and 43, 240000 and 330000 of 40 and 44. A thinned grid that
+ * differs from all eight is refused by 9.
+ *
+ * Either kind is drawn by rows 0 to nj - 1 of the chart and in each by positions 0 to grib1_row - 1, which on a
+ * rectangle are its columns. */
 typedef struct {
     int32_t la1;               /* latitude of the first grid point */
     int32_t lo1;               /* longitude of the first grid point */
     int32_t la2;               /* latitude of the last grid point */
     int32_t lo2;               /* longitude of the last grid point */
-    uint16_t ni;               /* points along a row: the chart's columns */
+    uint16_t ni;               /* points along a row, the chart's columns; GRIB1_MISSING on a thinned octant */
     uint16_t nj;               /* points along a column: the chart's rows */
-    uint16_t di;               /* distance of points along a row, or GRIB1_MISSING */
+    uint16_t di;               /* distance of points along a row, or GRIB1_MISSING, as on every thinned octant */
     uint16_t dj;               /* distance of points along a column, or GRIB1_MISSING */
     uint8_t resolution;        /* resolution flags, GDS octet 17 as carried */
     uint8_t scan;              /* scanning flags, GDS octet 28 as carried: GRIB1_SCAN_WEST and so on */
+    uint8_t rows;              /* enum grib1_rows. Any other number is refused by 9 in a form, and is a grid without
+                                  points to grib1_place, grib1_point and grib1_row; no header has one */
 } Grib1Grid;
 
 /* What a message says, but for its lists. A value X at a point stands for Y with Y x 10^D = R + X x 2^E. */
 typedef struct {
     uint32_t reply;            /* enum grib1_reply: 0, 1 to 12, and 14 of grib1_read */
-    uint32_t points;           /* n, the grid's points: ni x nj, at most GRIB1_POINTS_MOST */
+    uint32_t points;           /* n, the grid's points: ni x nj, or a thinned octant's 3,447; at most
+                                  GRIB1_POINTS_MOST */
     uint32_t present;          /* how many of them are present */
     int32_t d;                 /* D, the decimal scale */
     int32_t e;                 /* E, the binary scale */
@@ -173,11 +195,12 @@ typedef struct {
     double step;               /* 2^E */
 } Grib1Display;
 
-/* A place of the chart. */
+/* A place of the chart. On a thinned octant a column is a position in its own row: the same one in another row lies at
+ * another longitude. */
 typedef struct {
     uint32_t on;               /* 1; 0 where the grid has no such point */
     uint32_t row;              /* row 0 is north */
-    uint32_t column;           /* column 0 is west */
+    uint32_t column;           /* column 0 is west; below grib1_row of its row */
 } Grib1Place;
 
 /* A grid point. */
@@ -240,10 +263,14 @@ Grib1Part grib1_bitmap(const uint8_t *message, size_t message_len, uint16_t stor
 Grib1Display grib1_display(const uint8_t *message, size_t message_len, uint16_t store_number, const uint8_t *store,
     size_t store_len);
 
-/* Where a grid point lies on the chart of a grid, and which point lies at a place. Of the grid only ni, nj and scan
- * count, and any numbers will do. */
+/* Where a grid point lies on the chart of a grid, and which point lies at a place. Of the grid only ni, nj, scan and
+ * rows count, and any numbers will do. */
 Grib1Place grib1_place(Grib1Grid grid, uint32_t point);
 Grib1Point grib1_point(Grib1Grid grid, uint32_t row, uint32_t column);
+
+/* How many points row `row` of the chart has: ni on a rectangle, its own count on a thinned octant; 0 where the chart
+ * has no such row. Any numbers will do. */
+uint32_t grib1_row(Grib1Grid grid, uint32_t row);
 
 /* The data number of a grid point of a message. Reads message and store; takes a whole header's time. */
 Grib1Data grib1_data_number(const uint8_t *message, size_t message_len, uint16_t store_number, const uint8_t *store,
@@ -251,8 +278,8 @@ Grib1Data grib1_data_number(const uint8_t *message, size_t message_len, uint16_t
 
 /* How many octets the message of a PDS, a form and n marks takes, for a caller who lends no more than these: whatever
  * E, R and the values or source numbers are, a grib1_write or grib1_pack of the same parts that accepts them answers
- * this len. A reply other than 0, one of 5 to 7, 9 to 11 and 13, says that they will refuse these parts whatever comes with them.
- * Reads pds, store and marks. */
+ * this len. A reply other than 0, one of 5 to 7, 9 to 11 and 13, says that they will refuse these parts whatever comes
+ * with them. Reads pds, store and marks. */
 Grib1Written grib1_length(const uint8_t *pds, size_t pds_len, Grib1Form form, uint16_t store_number,
     const uint8_t *store, size_t store_len, const uint8_t *marks, size_t marks_len);
 

@@ -113,9 +113,13 @@ pub fn point(grid: Grid, row: u32, column: u32) -> Point {
     Call::new(8).record_in(grid).number(row).number(column).record()
 }
 
+pub fn row(grid: Grid, row: u32) -> u32 {
+    Call::new(9).record_in(grid).number(row).record()
+}
+
 #[allow(clippy::too_many_arguments)]
 pub fn write(pds: &[u8], form: Form, e: i32, r: u32, number: u16, s: &[u8], values: &[u32], marks: &[u8], out: &mut [u8]) -> Written {
-    let call = Call::new(9).list(pds).record_in(form).number(e as u32).number(r).number(number.into()).list(s);
+    let call = Call::new(10).list(pds).record_in(form).number(e as u32).number(r).number(number.into()).list(s);
     let mut answer = call.list(values).list(marks).list(out).answer();
     let written = answer.record();
     answer.list(out);
@@ -124,7 +128,7 @@ pub fn write(pds: &[u8], form: Form, e: i32, r: u32, number: u16, s: &[u8], valu
 
 #[allow(clippy::too_many_arguments)]
 pub fn pack(pds: &[u8], form: Form, number: u16, s: &[u8], numbers: &[i32], marks: &[u8], d: i32, out: &mut [u8]) -> Written {
-    let call = Call::new(10).list(pds).record_in(form).number(number.into()).list(s);
+    let call = Call::new(11).list(pds).record_in(form).number(number.into()).list(s);
     let mut answer = call.list(numbers).list(marks).number(d as u32).list(out).answer();
     let written = answer.record();
     answer.list(out);
@@ -132,5 +136,5 @@ pub fn pack(pds: &[u8], form: Form, number: u16, s: &[u8], numbers: &[i32], mark
 }
 
 pub fn length(pds: &[u8], form: Form, number: u16, s: &[u8], marks: &[u8]) -> Written {
-    Call::new(11).list(pds).record_in(form).number(number.into()).list(s).list(marks).record()
+    Call::new(12).list(pds).record_in(form).number(number.into()).list(s).list(marks).record()
 }

@@ -26,6 +26,7 @@
 #[cfg(feature = "driver")]
 extern crate std;
 
+mod grid;
 pub mod limits;
 mod records;
 mod refusal;
@@ -42,6 +43,7 @@ mod linked;
 #[cfg(not(feature = "driver"))]
 use linked as face;
 
+pub use grid::{Grid, Place, RowCounts};
 pub use refusal::Refusal;
 pub use rows::{Row, Rows};
 
@@ -77,43 +79,6 @@ pub enum Section {
     Bms = 3,
     Bds = 4,
     End = 5,
-}
-
-/// A latitude/longitude grid; corners in thousandths of a degree, north and east positive; `di` and `dj` may be
-/// `limits::MISSING`; `scan` has the bits of the module `scan`.
-#[derive(Clone, Copy, Debug, PartialEq, Eq)]
-pub struct Grid {
-    pub ni: u16,
-    pub nj: u16,
-    pub la1: i32,
-    pub lo1: i32,
-    pub resolution: u8,
-    pub la2: i32,
-    pub lo2: i32,
-    pub di: u16,
-    pub dj: u16,
-    pub scan: u8,
-}
-
-/// A place of the chart: row 0 is north, column 0 is west.
-#[derive(Clone, Copy, Debug, PartialEq, Eq)]
-pub struct Place {
-    pub row: u32,
-    pub column: u32,
-}
-
-impl Grid {
-    /// Where a grid point lies on the chart; None where the grid has no such point.
-    pub fn place(&self, point: u32) -> Option<Place> {
-        let p = face::place(grid_record(self), point);
-        (p.on == 1).then_some(Place { row: p.row, column: p.column })
-    }
-
-    /// The grid point that lies at a place; None where the chart has no such place.
-    pub fn point(&self, place: Place) -> Option<u32> {
-        let p = face::point(grid_record(self), place.row, place.column);
-        (p.on == 1).then_some(p.point)
-    }
 }
 
 /// The reference time of a field.
@@ -285,7 +250,8 @@ impl<'b> Field<'b> {
         self.marks
     }
 
-    /// The chart's rows from north, each from west: X, or None where the point is absent.
+    /// The chart's rows from north, each from west: X, or None where the point is absent. On a thinned octant each row
+    /// has its own length.
     pub fn rows(&self) -> Rows<'b> {
         Rows::new(&self.header.grid, self.values, self.marks)
     }
@@ -318,22 +284,10 @@ pub fn pack<'o>(pds: &[u8], form: &Form, stored: Stored, source: &Source, out: &
 }
 
 fn header_of(h: &records::Header) -> Header {
-    let g = h.grid;
     Header {
         points: h.points,
         present: h.present,
-        grid: Grid {
-            ni: g.ni,
-            nj: g.nj,
-            la1: g.la1,
-            lo1: g.lo1,
-            resolution: g.resolution,
-            la2: g.la2,
-            lo2: g.lo2,
-            di: g.di,
-            dj: g.dj,
-            scan: g.scan,
-        },
+        grid: Grid::of(&h.grid),
         bitmap: match h.bitmap {
             1 => Bitmap::Carried,
             2 => Bitmap::Stored(h.bitmap_number),
@@ -348,25 +302,10 @@ fn header_of(h: &records::Header) -> Header {
     }
 }
 
-fn grid_record(g: &Grid) -> records::Grid {
-    records::Grid {
-        la1: g.la1,
-        lo1: g.lo1,
-        la2: g.la2,
-        lo2: g.lo2,
-        ni: g.ni,
-        nj: g.nj,
-        di: g.di,
-        dj: g.dj,
-        resolution: g.resolution,
-        scan: g.scan,
-    }
-}
-
 fn form_record(f: &Form) -> records::Form {
     let (given, grid) = match &f.grid {
-        Some(g) => (1, grid_record(g)),
-        None => (0, records::Grid { la1: 0, lo1: 0, la2: 0, lo2: 0, ni: 0, nj: 0, di: 0, dj: 0, resolution: 0, scan: 0 }),
+        Some(g) => (1, g.record()),
+        None => (0, records::Grid::default()),
     };
     let (bitmap, bitmap_number) = match f.bitmap {
         Bitmap::Without => (0, 0),

@@ -11,10 +11,10 @@ pub const WRITTEN_MOST: usize = 205886;
 pub const PDS_LEAST: usize = 28;
 pub const PDS_MOST: usize = 1024;
 
-/// Ni and Nj.
+/// Ni and Nj of a rectangle.
 pub const SIDE_MOST: u16 = 65534;
 
-/// Ni × Nj: values and marks of so many hold any field.
+/// Points of a grid: values and marks of so many hold any field.
 pub const POINTS_MOST: usize = 65536;
 
 /// Thousandths of a degree, in magnitude.
@@ -37,5 +37,5 @@ pub const STEP_MOST: i32 = 24;
 /// A source number, in magnitude.
 pub const SOURCE_MOST: i32 = 8388607;
 
-/// A di or dj that is missing, all ones.
+/// A di or dj that is missing, and the ni and di of a thinned octant: all ones.
 pub const MISSING: u16 = 65535;

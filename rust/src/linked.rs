@@ -12,6 +12,7 @@ extern "C" {
     fn grib1_display(m: *const u8, m_len: usize, number: u16, s: *const u8, s_len: usize) -> Display;
     fn grib1_place(grid: Grid, point: u32) -> Place;
     fn grib1_point(grid: Grid, row: u32, column: u32) -> Point;
+    fn grib1_row(grid: Grid, row: u32) -> u32;
     fn grib1_data_number(m: *const u8, m_len: usize, number: u16, s: *const u8, s_len: usize, point: u32) -> Data;
     fn grib1_length(pds: *const u8, pds_len: usize, form: Form, number: u16, s: *const u8, s_len: usize, marks: *const u8, marks_len: usize) -> Written;
     fn grib1_write(
@@ -54,6 +55,10 @@ pub fn place(grid: Grid, point: u32) -> Place {
 
 pub fn point(grid: Grid, row: u32, column: u32) -> Point {
     unsafe { grib1_point(grid, row, column) }
+}
+
+pub fn row(grid: Grid, row: u32) -> u32 {
+    unsafe { grib1_row(grid, row) }
 }
 
 pub fn data_number(m: &[u8], number: u16, s: &[u8], point: u32) -> Data {

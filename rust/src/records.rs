@@ -8,7 +8,7 @@ pub struct Part {
     pub len: u32,
 }
 
-#[derive(Clone, Copy)]
+#[derive(Clone, Copy, Default)]
 #[repr(C)]
 pub struct Grid {
     pub la1: i32,
@@ -21,6 +21,7 @@ pub struct Grid {
     pub dj: u16,
     pub resolution: u8,
     pub scan: u8,
+    pub rows: u8,
 }
 
 #[derive(Clone, Copy)]

@@ -21,7 +21,8 @@ const WORDS: [&str; 20] = [
     "time out of its ranges",
     "no GDS, octet 7 not in the catalogue",
     "GDS length or octets 4 to 6 not as the rules say",
-    "Ni, Nj, n, a latitude, a longitude or the scan test outside the rules",
+    "Ni, Nj, n, a latitude, a longitude or the scan test outside the rules, or a thinned grid that is none of the \
+     eight octants",
     "bitmap rule broken, or no such stored bitmap, or one of its first n bits isn't the same number as the mark",
     "BDS flag bit 1, 2 or 4 set, N over 24, or E outside −32,767 to 32,767",
     "data length rule broken",

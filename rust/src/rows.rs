@@ -1,5 +1,5 @@
 // The chart by rows. Along a row the points' numbers stand at equal distances, so the codec is asked for the first two
-// of each row, and a point costs a sum and two fetches.
+// of each row and for its length, and a point costs a sum and two fetches.
 use crate::{Grid, Place};
 
 /// The rows of a chart, from north.
@@ -23,8 +23,9 @@ impl<'b> Iterator for Rows<'b> {
     fn next(&mut self) -> Option<Row<'b>> {
         let at = self.grid.point(Place { row: self.row, column: 0 })? as usize;
         let second = self.grid.point(Place { row: self.row, column: 1 }).map_or(at, |k| k as usize);
+        let left = self.grid.row_len(self.row) as usize;
         self.row += 1;
-        Some(Row { values: self.values, marks: self.marks, at, step: second.wrapping_sub(at), left: self.grid.ni as usize })
+        Some(Row { values: self.values, marks: self.marks, at, step: second.wrapping_sub(at), left })
     }
 
     fn size_hint(&self) -> (usize, Option<usize>) {

@@ -1,5 +1,5 @@
 // The messages that crates/list_cases lists, listed here by rows: the text is the same.
-use grib1::{Message, Refusal, Stored};
+use grib1::{Message, Refusal, RowCounts, Stored};
 use std::fmt::Write;
 use std::fs;
 use std::path::Path;
@@ -18,7 +18,10 @@ fn listed(octets: &[u8]) -> Result<String, u32> {
     let (mut values, mut marks) = (vec![0; 4096], vec![0; 4096]);
     let field = message.read(&mut values, &mut marks).map_err(reply)?;
     let h = field.header();
-    let mut text = format!("{} {} {} {} {} {} {:08x} {}\n", h.points, h.present, h.grid.ni, h.grid.nj, h.d, h.e, h.r, h.bits);
+    // of a thinned grid, document 02: "The listing's columns are then 0"
+    let columns = if h.grid.rows == RowCounts::Even { h.grid.ni } else { 0 };
+    let rows = h.grid.nj;
+    let mut text = format!("{} {} {columns} {rows} {} {} {:08x} {}\n", h.points, h.present, h.d, h.e, h.r, h.bits);
     for row in field.rows() {
         let cells: Vec<String> = row.map(|x| x.map_or("-".to_string(), |x| x.to_string())).collect();
         writeln!(text, "{}", cells.join(" ")).unwrap();

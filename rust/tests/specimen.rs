@@ -1,5 +1,6 @@
 // Every function on document 01's specimen.
-use grib1::{length, limits, pack, scan, write, Bitmap, Data, Display, Form, Grid, Header, Message, Moment, Parts, Place, Section, Source, Stored};
+use grib1::{length, limits, pack, scan, write, Bitmap, Data, Display, Form, Grid, Header, Message, Moment, Parts};
+use grib1::{Place, RowCounts, Section, Source, Stored};
 
 const SPECIMEN: &str = "4752494200005E01\
     00001C030700FFC00B6401F462030A06000100000000000014000001\
@@ -8,7 +9,19 @@ const SPECIMEN: &str = "4752494200005E01\
     00000E0F0000439C4000030B8000\
     37373737";
 
-const GRID: Grid = Grid { ni: 2, nj: 2, la1: 50000, lo1: -2000, resolution: 128, la2: 51000, lo2: -1000, di: 1000, dj: 1000, scan: scan::NORTH };
+const GRID: Grid = Grid {
+    ni: 2,
+    nj: 2,
+    la1: 50000,
+    lo1: -2000,
+    resolution: 128,
+    la2: 51000,
+    lo2: -1000,
+    di: 1000,
+    dj: 1000,
+    scan: scan::NORTH,
+    rows: RowCounts::Even,
+};
 
 const HEADER: Header = Header {
     points: 4,
@@ -79,6 +92,7 @@ fn points() {
     }
     assert_eq!(GRID.place(4), None);
     assert_eq!(GRID.point(Place { row: 2, column: 0 }), None);
+    assert_eq!([0, 1, 2, u32::MAX].map(|row| GRID.row_len(row)), [2, 2, 0, 0]);
 }
 
 #[test]

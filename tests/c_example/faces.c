@@ -1,9 +1,9 @@
-/* Every function of include/grib1.h on document 01's specimen, each field of each record compared: what the header declares is what the
- * archive has. Prints the lines of what differs, and ends with 1 where any does. */
-#include <stdio.h>
+/* Every function of include/grib1.h on document 01's specimen, each field of each record compared: what the header
+ * declares is what the archive has. Prints the lines of what differs, and ends with 1 where any does. */
 #include <string.h>
 
-#include "grib1.h"
+#define TEST "faces.c"
+#include "same.h"
 
 static const uint8_t specimen[94] = {
     0x47, 0x52, 0x49, 0x42, 0x00, 0x00, 0x5E, 0x01,
@@ -16,24 +16,11 @@ static const uint8_t specimen[94] = {
     0x00, 0x00, 0x0E, 0x0F, 0x00, 0x00, 0x43, 0x9C, 0x40, 0x00, 0x03, 0x0B, 0x80, 0x00,
     0x37, 0x37, 0x37, 0x37,
 };
+static const Grib1Grid specimen_grid = {
+    .la1 = 50000, .lo1 = -2000, .la2 = 51000, .lo2 = -1000, .ni = 2, .nj = 2, .di = 1000, .dj = 1000,
+    .resolution = 128, .scan = GRIB1_SCAN_NORTH, .rows = GRIB1_ROWS_EVEN,
+};
 static const uint8_t none[1];
-static int differ;
-
-static void same_at(int line, double is, double wanted)
-{
-    if (is != wanted) {
-        printf("faces.c:%d: %.17g, not %.17g\n", line, is, wanted);
-        differ = 1;
-    }
-}
-#define same(is, wanted) same_at(__LINE__, (double)(is), (double)(wanted))
-
-static void part(int line, Grib1Part p, uint32_t stored, uint32_t start, uint32_t len)
-{
-    same_at(line, p.stored, stored);
-    same_at(line, p.start, start);
-    same_at(line, p.len, len);
-}
 
 static void is_specimen(int line, Grib1Header h)
 {
@@ -44,20 +31,11 @@ static void is_specimen(int line, Grib1Header h)
     same_at(line, h.e, 0);
     same_at(line, h.r, 0x439C4000);
     same_at(line, h.bitmap, GRIB1_CARRIED);
-    same_at(line, h.grid.la1, 50000);
-    same_at(line, h.grid.lo1, -2000);
-    same_at(line, h.grid.la2, 51000);
-    same_at(line, h.grid.lo2, -1000);
-    same_at(line, h.grid.ni, 2);
-    same_at(line, h.grid.nj, 2);
-    same_at(line, h.grid.di, 1000);
-    same_at(line, h.grid.dj, 1000);
-    same_at(line, h.grid.resolution, 128);
-    same_at(line, h.grid.scan, GRIB1_SCAN_NORTH);
-    part(line, h.pds, 0, 8, 28);
-    part(line, h.gds, 0, 36, 32);
-    part(line, h.bms, 0, 68, 8);
-    part(line, h.bds, 0, 76, 14);
+    same_grid(line, h.grid, specimen_grid);
+    same_part(line, h.pds, 0, 8, 28);
+    same_part(line, h.gds, 0, 36, 32);
+    same_part(line, h.bms, 0, 68, 8);
+    same_part(line, h.bds, 0, 76, 14);
     same_at(line, h.bitmap_number, 0);
     same_at(line, h.year, 1998);
     same_at(line, h.month, 3);
@@ -66,22 +44,6 @@ static void is_specimen(int line, Grib1Header h)
     same_at(line, h.minute, 0);
     same_at(line, h.packing_flags, 0);
     same_at(line, h.bits, 3);
-}
-
-/* every field 0 but the reply */
-static void refused(int line, Grib1Header h, uint32_t reply)
-{
-    same_at(line, h.reply, reply);
-    same_at(line, h.points + h.present + h.r + h.bitmap, 0);
-    same_at(line, h.d, 0);
-    same_at(line, h.e, 0);
-    same_at(line, h.grid.la1 | h.grid.lo1 | h.grid.la2 | h.grid.lo2, 0);
-    same_at(line, h.grid.ni + h.grid.nj + h.grid.di + h.grid.dj + h.grid.resolution + h.grid.scan, 0);
-    part(line, h.pds, 0, 0, 0);
-    part(line, h.gds, 0, 0, 0);
-    part(line, h.bms, 0, 0, 0);
-    part(line, h.bds, 0, 0, 0);
-    same_at(line, h.bitmap_number + h.year + h.month + h.day + h.hour + h.minute + h.packing_flags + h.bits, 0);
 }
 
 static void reading(void)
@@ -94,10 +56,10 @@ static void reading(void)
     int i;
 
     is_specimen(__LINE__, grib1_header(specimen, 94, 0, none, 0));
-    refused(__LINE__, grib1_header(specimen, 93, 0, none, 0), GRIB1_TOTAL);
-    refused(__LINE__, grib1_header(specimen, 0, 0, none, 0), GRIB1_SIZE);
-    refused(__LINE__, grib1_read(specimen, 94, 0, none, 0, values, 3, marks, 5), GRIB1_ROOM);
-    refused(__LINE__, grib1_read(specimen, 94, 0, none, 0, values, 5, marks, 3), GRIB1_ROOM);
+    same_refusal(__LINE__, grib1_header(specimen, 93, 0, none, 0), GRIB1_TOTAL);
+    same_refusal(__LINE__, grib1_header(specimen, 0, 0, none, 0), GRIB1_SIZE);
+    same_refusal(__LINE__, grib1_read(specimen, 94, 0, none, 0, values, 3, marks, 5), GRIB1_ROOM);
+    same_refusal(__LINE__, grib1_read(specimen, 94, 0, none, 0, values, 5, marks, 3), GRIB1_ROOM);
     for (i = 0; i < 5; i++)
         same(values[i], 9);
     same(memcmp(marks, nines, 5), 0);
@@ -115,11 +77,11 @@ static void parts(void)
     uint32_t k;
 
     for (k = 0; k < 8; k++)
-        part(__LINE__, grib1_section(specimen, 94, 0, none, 0, k), 0, start[k], len[k]);
-    part(__LINE__, grib1_section(specimen, 94, 0, none, 0, 0xFFFFFFFF), 0, 0, 0);
-    part(__LINE__, grib1_section(specimen, 93, 0, none, 0, 1), 0, 0, 0);
-    part(__LINE__, grib1_bitmap(specimen, 94, 0, none, 0), 0, 74, 1);
-    part(__LINE__, grib1_bitmap(specimen, 93, 0, none, 0), 0, 0, 0);
+        same_part(__LINE__, grib1_section(specimen, 94, 0, none, 0, k), 0, start[k], len[k]);
+    same_part(__LINE__, grib1_section(specimen, 94, 0, none, 0, 0xFFFFFFFF), 0, 0, 0);
+    same_part(__LINE__, grib1_section(specimen, 93, 0, none, 0, 1), 0, 0, 0);
+    same_part(__LINE__, grib1_bitmap(specimen, 94, 0, none, 0), 0, 74, 1);
+    same_part(__LINE__, grib1_bitmap(specimen, 93, 0, none, 0), 0, 0, 0);
     same(d.reply, GRIB1_ACCEPTED);
     same(d.reference, 2500);
     same(d.step, 1);
@@ -155,6 +117,28 @@ static void points(void)
     same(grib1_point(grid, 2, 0).on, 0);
     same(grib1_point(grid, 0, 2).point, 0);
     same(grib1_data_number(specimen, 93, 0, none, 0, 0).kind, GRIB1_OUTSIDE);
+    same(grib1_row(grid, 0), 2);
+    same(grib1_row(grid, 1), 2);
+    same(grib1_row(grid, 2), 0);
+    same(grib1_row(grid, 0xFFFFFFFF), 0);
+
+    /* rows of a number that has no name: no points */
+    grid.rows = 3;
+    same(grib1_row(grid, 0), 0);
+    same(grib1_place(grid, 0).on, 0);
+    same(grib1_point(grid, 0, 0).on, 0);
+    grid.rows = GRIB1_ROWS_EVEN;
+
+    /* columns and rows are not taken for each other, and any numbers will do */
+    grid.ni = GRIB1_MISSING;
+    same(grib1_row(grid, 1), GRIB1_MISSING);
+    same(grib1_row(grid, 2), 0);
+    grid.nj = GRIB1_MISSING;
+    grid.ni = 0;
+    same(grib1_row(grid, GRIB1_MISSING - 1), 0);
+    grid.ni = 1;
+    same(grib1_row(grid, GRIB1_MISSING - 1), 1);
+    same(grib1_row(grid, GRIB1_MISSING), 0);
 }
 
 static void writing(void)
@@ -209,6 +193,13 @@ static void writing(void)
     same(grib1_check(specimen, 94, 0, none, 0, numbers, 3, marks, 4, 1).reply, GRIB1_SOURCE);
 
     /* kinds that have no name */
+    form.grid.rows = 3;
+    same(grib1_write(pds, 28, form, 0, h.r, 0, none, 0, values, 4, marks, 4, out, 96).reply, GRIB1_GRID);
+    same(grib1_pack(pds, 28, form, 0, none, 0, numbers, 4, marks, 4, 1, out, 96).reply, GRIB1_GRID);
+    same(grib1_length(pds, 28, form, 0, none, 0, marks, 4).reply, GRIB1_GRID);
+    form.grid.rows = 255;
+    same(grib1_write(pds, 28, form, 0, h.r, 0, none, 0, values, 4, marks, 4, out, 96).reply, GRIB1_GRID);
+    form.grid.rows = GRIB1_ROWS_EVEN;
     form.given = 2;
     form.bitmap = 3;
     same(grib1_write(pds, 28, form, 0, h.r, 0, none, 0, values, 4, marks, 4, out, 96).reply, GRIB1_GRID);
@@ -227,18 +218,19 @@ static void writing(void)
     same(w.len, 92);
     same(grib1_length(pds, 28, form, 5, store, 1, marks, 4).len, 92);
     same(grib1_length(pds, 28, form, 6, store, 1, marks, 4).reply, GRIB1_BITMAP);
-    part(__LINE__, grib1_bitmap(out, 92, 5, store, 1), 1, 0, 1);
+    same_part(__LINE__, grib1_bitmap(out, 92, 5, store, 1), 1, 0, 1);
     h = grib1_header(out, 92, 5, store, 1);
     same(h.bitmap, GRIB1_STORED);
     same(h.bitmap_number, 5);
     same(h.present, 3);
-    refused(__LINE__, grib1_header(out, 92, 0, none, 0), GRIB1_BITMAP);
-    refused(__LINE__, grib1_header(out, 92, 6, store, 1), GRIB1_BITMAP);
+    same_refusal(__LINE__, grib1_header(out, 92, 0, none, 0), GRIB1_BITMAP);
+    same_refusal(__LINE__, grib1_header(out, 92, 6, store, 1), GRIB1_BITMAP);
     same(grib1_data_number(out, 92, 5, store, 1, 3).data_number, 2);
 }
 
 int main(void)
 {
+    same(sizeof(Grib1Grid), 28);
     reading();
     parts();
     points();

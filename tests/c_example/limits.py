@@ -28,10 +28,11 @@ def even(octets):
 
 
 # what no caller meets: the bounds of the listing program, and of sections that are whole in what is lent
-INSIDE = {"LISTED_MOST", "LISTED_ROOM", "GDS_LEAST", "GDS_LENGTH", "BMS_LEAST", "BMS_HEAD", "BDS_LEAST", "BDS_HEAD"}
+INSIDE = {"LISTED_MOST", "LISTED_ROOM", "GDS_LEAST", "GDS_LENGTH", "THINNED_LENGTH", "OCTANT_ROWS", "OCTANT_POINTS", "BMS_LEAST", "BMS_HEAD", "BDS_LEAST", "BDS_HEAD"}
 limits = {name: value for name, value in bounds.items() if name not in INSIDE}
 
-# every section at its most: indicator, PDS, GDS, a bitmap that is carried, data, end (crates/sections/specs/Layout.antt, roomMost)
+# every section of a rectangle at its most: indicator, PDS, GDS, a bitmap that is carried, data, end; a thinned octant has a longer GDS and
+# far fewer points (crates/theorems/specs/Returns.antt, WrittenFits)
 limits["WRITTEN_MOST"] = (
     8 + bounds["PDS_MOST"] + bounds["GDS_LENGTH"] + even(bounds["BMS_HEAD"] + bounds["POINTS_MOST"] // 8)
     + even(bounds["BDS_HEAD"] + bounds["POINTS_MOST"] * bounds["BITS_MOST"] // 8) + 4
@@ -53,6 +54,7 @@ version = ".".join(str(c[f"VERSION_{part}"]) for part in ("MAJOR", "MINOR", "PAT
 for where, found in [
     ("include/grib1.h, GRIB1_VERSION", re.search(r'^#define GRIB1_VERSION "(.*)"$', header, re.M)[1]),
     ("rust/Cargo.toml", re.search(r'^version = "(.*)"$', text("rust", "Cargo.toml"), re.M)[1]),
+    ("rust/Cargo.lock", re.search(r'^name = "grib1"\nversion = "(.*)"$', text("rust", "Cargo.lock"), re.M)[1]),
 ]:
     if found != version:
         wrong.append(f"{where}: version {found}, not {version}")

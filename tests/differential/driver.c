@@ -73,6 +73,7 @@ static void tell_grid(Grib1Grid g)
     tell(g.dj);
     tell(g.resolution);
     tell(g.scan);
+    tell(g.rows);
 }
 
 static void tell_part(Grib1Part p)
@@ -125,6 +126,7 @@ static Grib1Grid grid(void)
     g.dj = (uint16_t)word();
     g.resolution = (uint8_t)word();
     g.scan = (uint8_t)word();
+    g.rows = (uint8_t)word();
     return g;
 }
 
@@ -196,10 +198,12 @@ static void about_chart(uint32_t function)
         tell(place.on);
         tell(place.row);
         tell(place.column);
-    } else {
+    } else if (function == 8) {
         Grib1Point point = grib1_point(g, a, word());
         tell(point.on);
         tell(point.point);
+    } else {
+        tell(grib1_row(g, a));
     }
 }
 
@@ -262,7 +266,7 @@ int main(void)
         function = word();
         if (function <= 6)
             about_message(function);
-        else if (function <= 8)
+        else if (function <= 8 || function == 12)
             about_chart(function);
         else if (function <= 10)
             writing(function);

@@ -1,7 +1,9 @@
-/* One call of the codec for a program that cannot link the archive: rust/src/driver.rs, on another processor than x86-64.
+/* One call of the codec for a program that cannot link the archive: rust/src/driver.rs, on another processor than
+ * x86-64.
  *
- * Standard input: the number of the function, then its arguments in the order of include/grib1.h, a number as four octets, a form or a grid as its octets, a
- * buffer as its count of elements and their octets. Standard output: the record's octets, then those of each buffer that is written. */
+ * Standard input: the number of the function, then its arguments in the order of include/grib1.h, a number as four
+ * octets, a form or a grid as its octets, a buffer as its count of elements and their octets. Standard output: the
+ * octets of the record or number that is answered, then those of each buffer that is written. */
 #include <stdio.h>
 #include <string.h>
 
@@ -114,13 +116,17 @@ static void on_chart(uint32_t function)
     uint32_t first = word();
     Grib1Place place;
     Grib1Point point;
+    uint32_t columns;
 
     if (function == 7) {
         place = grib1_place(g, first);
         answer(&place, sizeof place);
-    } else {
+    } else if (function == 8) {
         point = grib1_point(g, first, word());
         answer(&point, sizeof point);
+    } else {
+        columns = grib1_row(g, first);
+        answer(&columns, sizeof columns);
     }
 }
 
@@ -136,7 +142,7 @@ static void to_message(uint32_t function)
     void *numbers;
     Grib1Written w;
 
-    if (function == 9) {
+    if (function == 10) {
         e = (int32_t)word();
         r = word();
     }
@@ -144,7 +150,7 @@ static void to_message(uint32_t function)
     s = list(1, &s_len);
     numbers = list(4, &list_len);
     marks = list(1, &marks_len);
-    if (function == 9) {
+    if (function == 10) {
         out = list(1, &out_len);
         w = grib1_write(pds, pds_len, f, e, r, number, s, s_len, numbers, list_len, marks, marks_len, out, out_len);
     } else {
@@ -178,9 +184,9 @@ int main(void)
     function = word();
     if (function < 7)
         about_message(function);
-    else if (function < 9)
+    else if (function < 10)
         on_chart(function);
-    else if (function < 11)
+    else if (function < 12)
         to_message(function);
     else
         before_message();

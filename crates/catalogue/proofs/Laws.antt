@@ -1,5 +1,6 @@
 -- A table searched from the top, a row at a time; over any table.
 use mathlib.Core.Path.{_≡_, refl, sym, ap, _∙_}
+use mathlib.Core.Bool.{true, false}
 use mathlib.Core.List.{List, [], _∷_, map}
 use Prim.Native.Nat.{ℕ, zero, suc, _+_, _<_}
 use native.Mathlib.Numerals.{add-one}
@@ -9,19 +10,32 @@ use borrow.Author.Tests.{eq-eqb, ne-eqb}
 use lib.ListN.{length, drop, getD}
 use Rattle.rules.specs.declared.Entry.{Entry}
 use Rattle.rules.specs.declared.Found.the-variants.{Given}
-use Rattle.rules.specs.Grid.{entry, lookup}
+use Rattle.rules.specs.declared.{Grid.Grid}
+use Rattle.rules.specs.Grid.{rowsNumber, entry, lookup, edgesOf, sameGrid, likeOne}
 use Rattle.catalogue.specs.declared.{Numbers.Numbers}
 
 -- what a table's numbers stand for, of any table
 abbrev pub standsFor : Numbers → Entry
-standsFor n = entry (n .number) (n .ni) (n .nj) (n .la1) (n .lo1) (n .la2) (n .lo2) (n .di) (n .dj) (n .scan)
+standsFor n = entry (n .number) (n .ni) (n .nj) (n .la1) (n .lo1) (n .la2) (n .lo2) (n .di) (n .dj) (n .scan) (n .rows)
 
 -- a row's numbers
 abbrev pub numbersOf : Entry → Numbers
 numbersOf e =
-    let g = e .grid .shape in
-    let a = e .grid .geometry in
-    record { number = e .number; ni = g .ni; nj = g .nj; la1 = a .la1 .value; lo1 = a .lo1 .value; la2 = a .la2 .value; lo2 = a .lo2 .value; di = a .di; dj = a .dj; scan = g .scan }
+    let g = e .grid in
+    let x = edgesOf (g .geometry) in
+    record {
+      number = e .number;
+      ni = g .ni;
+      nj = g .nj;
+      la1 = g .la1 .value;
+      lo1 = g .lo1 .value;
+      la2 = x .la2 .value;
+      lo2 = x .lo2 .value;
+      di = x .di;
+      dj = x .dj;
+      scan = g .scan;
+      rows = rowsNumber (g .geometry);
+    }
 
 -- The rows from i on are the row at i and those after it.
 from-suc : (ns : List Numbers) (i : ℕ) (d : Numbers) → i < length ns
@@ -44,3 +58,13 @@ module _ (es rest : List Entry) (e : Entry) (n : ℕ) (at : es ≡ e ∷ rest) w
   pub miss : (e .number ≡ n → ⊥) → lookup es n ≡ lookup rest n
   unfolding lookup
   miss other = rw (at, ne-eqb _ _ other)
+
+-- So it is where a grid is looked for by value.
+module _ (es rest : List Entry) (e : Entry) (g : Grid) (at : es ≡ e ∷ rest) where
+  pub found : sameGrid g (e .grid) ≡ true → likeOne es g ≡ true
+  unfolding likeOne
+  found same = rw (at, same)
+
+  pub passed : sameGrid g (e .grid) ≡ false → likeOne es g ≡ likeOne rest g
+  unfolding likeOne
+  passed other = rw (at, other)

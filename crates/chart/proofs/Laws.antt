@@ -1,16 +1,24 @@
--- A count turned stays below its bound, and a point's number fits; what is answered inside the chart and outside. By
--- cases and arithmetic.
-use mathlib.Core.Path.{_≡_, sym, ap, _∙_, subst}
+-- A count turned stays below its bound, and a point's number fits; what a shape of each kind has; what is answered inside
+-- the chart and outside. By cases and arithmetic.
+use mathlib.Core.Path.{_≡_, refl, sym, ap, _∙_, subst}
+use mathlib.Core.List.{List}
 use mathlib.Core.Bool.{Bool, true, false, _&&_, cond}
 use Prim.Native.Nat.{ℕ, _+_, _*_, _<_, _≤_}
 use native.Mathlib.Omega.{arith}
 use borrow.Author.Tests.{ltb-true, lt-ltb, le-ltb}
 use lib.Dec.{ltb}
+use lib.ListN.{length, getD}
 use Rattle.bits.proofs.Products.{product, left-positive, right-positive}
 use Rattle.bits.proofs.Tests.{and-left, and-right}
-use Rattle.rules.specs.declared.{Shape.Shape, GridPoint.GridPoint, Spot.Spot, Charted.the-variants.On}
+use Rattle.rules.specs.declared.{Rectangle.Rectangle, Thinning.Thinning, Shape.Shape, Shape.the-variants.Even}
+use Rattle.rules.specs.declared.{Shape.the-variants.Uneven, Edges.Edges, Octant.Octant, Geometry.the-variants.LatLon}
+use Rattle.rules.specs.declared.{Geometry.the-variants.Thinned, Grid.Grid}
+use Rattle.rules.specs.declared.{GridPoint.GridPoint, Spot.Spot, Charted.the-variants.On}
 use Rattle.rules.specs.declared.{Charted.the-variants.Off, Pointed.the-variants.At, Pointed.the-variants.Off as Nowhere}
-use Rattle.rules.specs.Chart.{turned, pointsOn, rowsOn, rowLong, spotOn, pointOn, charted, pointed}
+use Rattle.rules.specs.Counts.{total, countsOf}
+use Rattle.rules.specs.Chart.{west, north, turned, spotOf, pointOf, spotAmong, across, pointAmong}
+use Rattle.rules.specs.Chart.{pointsOn, rowsOn, rowLong, columnsOn, spotOn, pointOn, charted, pointed}
+use Rattle.rules.specs.Grid.{shapeBy, shapeOf}
 
 pub turned-lt : (turn : Bool) (n i r : ℕ) → r ≡ turned turn n i → i < n → r < n
 unfolding turned
@@ -34,19 +42,109 @@ module _ (t u : Bool) (ni nj row column j i : ℕ) (ej : j ≡ turned t nj row) 
 pub both : (a b c d : ℕ) → (ltb a b && ltb c d) ≡ true → (a < b) × (c < d)
 both a b c d e = (ltb-true a b (and-left (ltb a b) (ltb c d) e), ltb-true c d (and-right (ltb a b) (ltb c d) e))
 
+-- a rectangle
+module _ (g : Shape) (q : Rectangle) (e : g ≡ Even q) where
+  pub even-points : (n : ℕ) → n ≡ q .ni * q .nj → n ≡ pointsOn g
+  unfolding pointsOn
+  even-points n h = h ∙ sym (ap pointsOn e)
+
+  pub even-rows : (n : ℕ) → n ≡ q .nj → n ≡ rowsOn g
+  unfolding rowsOn
+  even-rows n h = h ∙ sym (ap rowsOn e)
+
+  pub even-long : (r n : ℕ) → n ≡ cond (ltb r (q .nj)) (q .ni) 0 → n ≡ rowLong g r
+  unfolding rowLong
+  even-long r n h = h ∙ sym (ap (λ (x : Shape). rowLong x r) e)
+
+  pub even-columns : (n : ℕ) → n ≡ q .ni → n ≡ columnsOn g
+  unfolding columnsOn
+  even-columns n h = h ∙ sym (ap columnsOn e)
+
+  pub even-spot : (k : ℕ) (c : Spot) → c ≡ spotOf (q .ni) (q .nj) (q .scan) k → c ≡ spotOn g k
+  unfolding spotOn
+  even-spot k c h = h ∙ sym (ap (λ (x : Shape). spotOn x k) e)
+
+  pub even-point : (c : Spot) (n : ℕ) → n ≡ pointOf (q .ni) (q .nj) (q .scan) c → n ≡ pointOn g c
+  unfolding pointOn
+  even-point c n h = h ∙ sym (ap (λ (x : Shape). pointOn x c) e)
+
+  -- where it has a point, and a place
+  pub sides : (k : ℕ) → k < pointsOn g → (0 < q .ni) × (0 < q .nj)
+  unfolding pointsOn
+  sides k l =
+      let h : k < q .ni * q .nj = subst (λ (x : Shape). k < pointsOn x) e l in
+      (left-positive (q .ni) (q .nj) k h, right-positive (q .ni) (q .nj) k h)
+
+  pub inside : (c : Spot) → c .row < rowsOn g → c .column < rowLong g (c .row) → (c .row < q .nj) × (c .column < q .ni)
+  unfolding rowsOn rowLong
+  inside c r l =
+      let h : c .row < q .nj = subst (λ (x : Shape). c .row < rowsOn x) e r in
+      let m : c .column < cond (ltb (c .row) (q .nj)) (q .ni) 0 = subst (λ (x : Shape). c .column < rowLong x (c .row)) e l in
+      (h, subst (λ (t : Bool). c .column < cond t (q .ni) 0) (lt-ltb (c .row) (q .nj) h) m)
+
+-- the rows of a thinned octant
+module _ (g : Shape) (u : Thinning) (e : g ≡ Uneven u) where
+  pub uneven-points : (n : ℕ) → n ≡ total (countsOf (u .start)) → n ≡ pointsOn g
+  unfolding pointsOn
+  uneven-points n h = h ∙ sym (ap pointsOn e)
+
+  pub uneven-rows : (n : ℕ) → n ≡ length (countsOf (u .start)) → n ≡ rowsOn g
+  unfolding rowsOn
+  uneven-rows n h = h ∙ sym (ap rowsOn e)
+
+  pub uneven-long : (r n : ℕ) → n ≡ across (countsOf (u .start)) (u .scan) r → n ≡ rowLong g r
+  unfolding rowLong
+  uneven-long r n h = h ∙ sym (ap (λ (x : Shape). rowLong x r) e)
+
+  pub uneven-columns : 0 ≡ columnsOn g
+  unfolding columnsOn
+  uneven-columns = sym (ap columnsOn e)
+
+  pub uneven-spot : (k : ℕ) (c : Spot) → c ≡ spotAmong (countsOf (u .start)) (u .scan) k → c ≡ spotOn g k
+  unfolding spotOn
+  uneven-spot k c h = h ∙ sym (ap (λ (x : Shape). spotOn x k) e)
+
+  pub uneven-point : (c : Spot) (n : ℕ) → n ≡ pointAmong (countsOf (u .start)) (u .scan) c → n ≡ pointOn g c
+  unfolding pointOn
+  uneven-point c n h = h ∙ sym (ap (λ (x : Shape). pointOn x c) e)
+
+  pub among : (c : Spot) → c .row < rowsOn g → c .column < rowLong g (c .row)
+      → (c .row < length (countsOf (u .start))) × (c .column < across (countsOf (u .start)) (u .scan) (c .row))
+  unfolding rowsOn rowLong
+  among c r l =
+      (subst (λ (x : Shape). c .row < rowsOn x) e r, subst (λ (x : Shape). c .column < rowLong x (c .row)) e l)
+
+-- the shape of a grid
+pub shape-even : (g : Grid) (x : Edges) → g .geometry ≡ LatLon x
+    → Even (record { ni = g .ni; nj = g .nj; scan = g .scan }) ≡ shapeOf g
+unfolding shapeOf
+shape-even g x e = sym (ap (shapeBy g) e)
+
+pub shape-uneven : (g : Grid) (o : Octant) → g .geometry ≡ Thinned o
+    → Uneven (record { start = o .start; scan = g .scan }) ≡ shapeOf g
+unfolding shapeOf
+shape-uneven g o e = sym (ap (shapeBy g) e)
+
+-- a row of these counts, of the chart and outside
+module _ (counts : List ℕ) (scan r n : ℕ) (e : n ≡ length counts) where
+  pub across-in : r < n → (m : ℕ) → m ≡ getD counts (turned (north scan) (length counts) r) 0 → m ≡ across counts scan r
+  unfolding across
+  across-in l m f = f ∙ sym (ap (λ (t : Bool). cond t (getD counts (turned (north scan) (length counts) r) 0) 0) (lt-ltb r (length counts) (subst (λ (x : ℕ). r < x) e l)))
+
+  pub across-out : n ≤ r → 0 ≡ across counts scan r
+  unfolding across
+  across-out l = sym (ap (λ (t : Bool). cond t (getD counts (turned (north scan) (length counts) r) 0) 0) (le-ltb r (length counts) (subst (λ (x : ℕ). x ≤ r) e l)))
+
 -- a grid point of n, and a number that is none
 module _ (g : Shape) (k : GridPoint) (n : ℕ) (e : n ≡ pointsOn g) where
-  pub sides : k .0 < n → (0 < g .ni) × (0 < g .nj)
-  sides l =
-      let h = subst (λ (x : ℕ). k .0 < x) e l in
-      (left-positive (g .ni) (g .nj) (k .0) h, right-positive (g .ni) (g .nj) (k .0) h)
+  pub one-of : k .0 < n → k .0 < pointsOn g
+  one-of l = subst (λ (x : ℕ). k .0 < x) e l
 
   pub on : k .0 < n → (s : Spot) → s ≡ spotOn g (k .0) → On s ≡ charted g k
   unfolding charted
   on l s f =
       ap On f
-      ∙ sym (ap (λ (b : Bool). cond b (On (spotOn g (k .0))) Off)
-      (lt-ltb (k .0) (pointsOn g) (subst (λ (x : ℕ). k .0 < x) e l)))
+      ∙ sym (ap (λ (b : Bool). cond b (On (spotOn g (k .0))) Off) (lt-ltb (k .0) (pointsOn g) (one-of l)))
 
   pub off : n ≤ k .0 → Off ≡ charted g k
   unfolding charted

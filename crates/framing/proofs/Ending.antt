@@ -28,7 +28,8 @@ use Rattle.rules.specs.Points.{gathered}
 use Rattle.writable.specs.Listed.{Listed}
 use Rattle.laws.proofs.Fields.{laid-length}
 use Rattle.framing.proofs.Gathered.{gathered-all}
-use Rattle.framing.proofs.Placing.{number-put, length-octets, placed-after, placed-from, part-whole, part-rest}
+use Rattle.puts.proofs.Laying.{number-put, length-octets}
+use Rattle.framing.proofs.Placing.{placed-after, placed-from, part-whole, part-rest}
 
 -- the octets that a data section ends in: the last of them cleared first, the values put, and then '7777'
 module _ (n : ℕ) (xs : List ℕ) (w : Wide n xs) (c : ℕ) (pos : 0 < c) (low : octetsFor (length xs * n) ≤ c)

@@ -35,7 +35,7 @@ use Rattle.rules.specs.Writing.{indicatorFields}
 use Rattle.framing.specs.Layout.{markedCount, bdsRoom, frontRoom, messageRoom, sectionsBy, messageBy, frontBy}
 use Rattle.framing.specs.Layout.{headBy}
 use Rattle.framing.specs.Framing.{lengthIn, frameOf, frameIn, framed}
-use Rattle.framing.proofs.Placing.{laid-rest}
+use Rattle.puts.proofs.Laying.{laid-rest}
 use Rattle.framing.proofs.Lengths.{gds-room, bms-room, bds-room}
 use Rattle.framing.proofs.Marks.{present-count}
 use Rattle.framing.proofs.Sections.{front-length, head-length, head-data}

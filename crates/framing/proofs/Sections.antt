@@ -1,22 +1,22 @@
 -- Sections laid down: what each kind of grid and bitmap leaves, and the front of a message out of its four parts.
-use mathlib.Core.Path.{_≡_, refl, sym, ap, ap₂, _∙_}
-use mathlib.Core.Bool.{false}
+use mathlib.Core.Path.{_≡_, refl, sym, ap, ap₂, subst, _∙_}
+use mathlib.Core.Bool.{Bool, true, false, not, cond, _&&_}
 use mathlib.Core.List.{List, [], _++_, append-assoc}
 use Prim.Native.Nat.{ℕ, _+_, _-_, _*_, _≤_}
 use native.Mathlib.Nat.{add-zero}
 use native.Mathlib.Omega.{arith}
+use borrow.Author.Tests.{le-leb}
+use lib.Dec.{leb}
 use lib.ListN.{length, length-append}
 use Rattle.rules.specs.Bounds.{bmsHead, bdsHead}
 use Rattle.bits.specs.Bits.{bitsIn, octetsFor, runs, placed}
 use Rattle.bits.specs.Tables.{tab}
 use Rattle.bits.proofs.Trip.{length-runs}
 use Rattle.bits.proofs.Placing.{placed-none, length-placed, number-placed}
-use Rattle.rules.specs.declared.{Grid.Grid, Found.Found, Found.the-variants.Nothing, Found.the-variants.Given}
+use Rattle.rules.specs.declared.{Found.Found, Found.the-variants.Nothing, Found.the-variants.Given}
 use Rattle.rules.specs.declared.{Bitmap.Bitmap, Bitmap.the-variants.Without, Bitmap.the-variants.Carried}
 use Rattle.rules.specs.declared.{Bitmap.the-variants.Stored, Form.Form, Packing.Packing, Scale.Scale}
 use Rattle.rules.specs.Numbers.{octets, laid, evenFrom}
-use Rattle.rules.specs.Table.{anyOf}
-use Rattle.rules.specs.Grid.{gdsOf, gridFaults}
 use Rattle.rules.specs.Bitmap.{bmsOf, markOf}
 use Rattle.rules.specs.Values.{bdsOf}
 use Rattle.rules.specs.Writing.{gdsFor}
@@ -26,26 +26,26 @@ use Rattle.rules.specs.Values.{scaleFields}
 use Rattle.framing.specs.Layout.{gdsRoom, bmsRoom, bdsRoom, frontRoom, frontBy, headBy}
 use Rattle.framing.specs.Framing.{givenBad}
 use Rattle.puts.specs.Put.{putNumber}
+use Rattle.gds_put.specs.Section.{foundHolds, gdsFits, gdsPut}
+use Rattle.gds_put.proofs.Laws.{grid-held}
 use Rattle.laws.proofs.Fields.{laid-length}
 use Rattle.marks.specs.Marks.{marksPut}
 use Rattle.marks.proofs.Bitmaps.{put-fits}
-use Rattle.framing.proofs.Placing.{laid-rest, number-put, two-placed, three-placed}
+use Rattle.puts.proofs.Laying.{laid-rest, number-put, two-placed, three-placed}
 use Rattle.framing.proofs.Lengths.{gds-room, bms-room}
 
--- a grid that is not given, and one that is
-pub grid-none : (f : Found) (d : List ℕ) (at : ℕ) → f ≡ Nothing → (at ≡ at + gdsRoom f) × (d ≡ placed d at (gdsFor f))
-unfolding gdsRoom
-grid-none f d at e = rw e (sym (add-zero at), sym (placed-none d at))
+-- the grid that is given, put where there is room for it
+found-held : (f : Found) → givenBad f ≡ false → foundHolds f ≡ true
+unfolding foundHolds
+found-held Nothing b = refl
+found-held (Given g) b = ap not (grid-held g b)
 
-module _ (f : Found) (g : Grid) (e : f ≡ Given g) where
-  pub grid-room : (at n : ℕ) → at + gdsRoom f ≤ n → givenBad f ≡ false → (at + 32 ≤ n) × (anyOf (gridFaults g) ≡ false)
-  unfolding gdsRoom
-  grid-room at n h b = (rw e at h, rw e at b)
-
-  pub grid-some : (d o : List ℕ) (at : ℕ) → o ≡ placed d at (gdsOf g)
-      → (at + 32 ≡ at + gdsRoom f) × (o ≡ placed d at (gdsFor f))
-  unfolding gdsRoom
-  grid-some d o at h = rw e (refl, h)
+pub grid-put : (f : Found) (d o : List ℕ) (at : ℕ) → givenBad f ≡ false → at + gdsRoom f ≤ length d → o ≡ gdsPut d at f
+    → o ≡ placed d at (gdsFor f)
+unfolding gdsPut gdsFits
+grid-put f d o at b h e =
+    let l : leb (at + length (gdsFor f)) (length d) ≡ true = le-leb _ _ (subst (λ (n : ℕ). at + n ≤ length d) (sym (gds-room f)) h) in
+    e ∙ ap₂ (λ (x y : Bool). cond (x && y) (placed d at (gdsFor f)) d) (found-held f b) l
 
 -- the three kinds of bitmap
 pub map-none : (m : Bitmap) (present : ℕ → ℕ) (n : ℕ) (d : List ℕ) (at : ℕ) → m ≡ Without

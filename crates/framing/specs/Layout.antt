@@ -6,7 +6,7 @@ use Rattle.rules.specs.declared.{Found.Found, Found.the-variants.Nothing, Found
 use Rattle.rules.specs.declared.{Bitmap.the-variants.Without, Bitmap.the-variants.Carried, Bitmap.the-variants.Stored}
 use Rattle.rules.specs.declared.{Form.Form, Scale.Scale, Packing.Packing}
 use Rattle.bits.specs.Bits.{octetsFor, count}
-use Rattle.rules.specs.Bounds.{pdsMost, gdsLength, bmsHead, bdsHead, pointsMost, bitsMost}
+use Rattle.rules.specs.Bounds.{pdsMost, thinnedLength, bmsHead, bdsHead, pointsMost, bitsMost}
 use Rattle.rules.specs.Numbers.{field, laid, joined, evenFrom}
 use Rattle.rules.specs.Places.{sevens, pdsStart}
 use Rattle.rules.specs.Grid.{gdsLengthOf}
@@ -51,7 +51,7 @@ abbrev pub bdsMost : ℕ
 bdsMost = evenFrom (bdsHead + octetsFor dataMost)
 
 abbrev pub roomMost : ℕ
-roomMost = pdsStart + (pdsMost + (gdsLength + bmsMost)) + (bdsMost + 4)
+roomMost = pdsStart + (pdsMost + (thinnedLength + bmsMost)) + (bdsMost + 4)
 
 -- the sections over presence and values as functions
 unfoldable pub sectionsBy : List ℕ → Form → Scale → (ℕ → ℕ) → (ℕ → ℕ) → ℕ → List (List ℕ)

@@ -6,39 +6,34 @@ ghost use Prim.Native.Nat.{_+_, _-_, _^_, _<_, _≤_};
 ghost use lib.ListN.{length};
 ghost use Rattle.bits.specs.Bits.{octetsFor, placed};
 ghost use Rattle.rules.specs.declared.Bitmap.the-variants.{Carried};
-ghost use Rattle.rules.specs.Bounds.{gdsLength, bmsHead, bdsHead, pointsMost, bitsMost};
-ghost use Rattle.rules.specs.Table.{anyOf};
+ghost use Rattle.rules.specs.Bounds.{bmsHead, bdsHead, pointsMost, bitsMost};
 ghost use Rattle.rules.specs.Numbers.{octets, laid, evenFrom};
-ghost use Rattle.rules.specs.Grid.{gdsLengthOf, headFields, cornerFields, stepFields, gdsOf, gridFaults};
 ghost use Rattle.rules.specs.Bitmap.{bmsFields, bmsOf, markOf};
 ghost use Rattle.rules.specs.Values.{scaleFields};
-ghost use Rattle.rules.specs.Writing.{gdsFor, indicatorFields};
+ghost use Rattle.rules.specs.Writing.{indicatorFields};
 ghost use Rattle.laws.specs.Signs.{SignFree};
-ghost use Rattle.framing.specs.Layout.{gdsRoom, bmsRoom, bdsRoom, frontRoom, frontBy, headBy};
+ghost use Rattle.framing.specs.Layout.{bmsRoom, bdsRoom, frontRoom, frontBy, headBy};
 ghost use Rattle.framing.specs.Framing.{givenBad};
 use crate::rooms::BDS_OCTETS;
 use crate::rooms::BMS_OCTETS;
-use crate::rooms::GDS_OCTETS;
 use crate::rooms::bds_room;
 use crate::rooms::carried_room;
+use gds_put::gds_room;
+use gds_put::put_gds;
 use layout::GRIB;
 use layout::PDS_START;
 use marks::put;
 use puts::put_four;
 use puts::put_octet;
-use puts::put_signed_three;
 use puts::put_signed_two;
 use puts::put_three;
 use puts::put_two;
 use rules::Bitmap;
 use rules::Form;
-use rules::Found;
-use rules::Grid;
 use rules::Packing;
 use rules::Scale;
 use rules::Signed;
 use rules::bounds::BMS_HEAD;
-use rules::bounds::GDS_LENGTH;
 
 // The indicator: GRIB, the total length, the edition.
 fn put_indicator(out: &mut [u8], len: u32)
@@ -60,82 +55,6 @@ fn copy(s: &[u8], out: &mut [u8], at: usize)
     while i < s.len() {
         out[at + i] = s[i];
         i += 1;
-    }
-}
-
-// Octets 1 to 10 of the GDS at place g.
-fn put_shape(out: &mut [u8], g: usize, ni: u16, nj: u16)
-    requires { ⌜ g + 10 ≤ length (now out) ⌝ }
-    ensures { λ _. ⌜ now (out .exit) ≡ placed (now (out .entry)) g (laid (headFields gdsLength ni nj) []) ⌝ }
-{
-    put_three(out, g, 1, GDS_LENGTH);
-    put_octet(out, g, 4, 0);
-    put_octet(out, g, 5, 255);
-    put_octet(out, g, 6, 0);
-    put_two(out, g, 7, ni);
-    put_two(out, g, 9, nj);
-}
-
-// Octets 11 to 23.
-fn put_corners(
-    out: &mut [u8],
-    g: usize,
-    la1: Signed,
-    lo1: Signed,
-    flags: u8,
-    la2: Signed,
-    lo2: Signed,
-)
-    requires { ⌜ g + 23 ≤ length (now out) ⌝ }
-    requires { ⌜ SignFree 3 la1 × SignFree 3 lo1 ⌝ }
-    requires { ⌜ SignFree 3 la2 × SignFree 3 lo2 ⌝ }
-    ensures { λ _. ⌜ now (out .exit) ≡
-        placed (now (out .entry)) (g + 10) (laid (cornerFields la1 lo1 flags la2 lo2) []) ⌝ }
-{
-    put_signed_three(out, g, 11, la1);
-    put_signed_three(out, g, 14, lo1);
-    put_octet(out, g, 17, flags);
-    put_signed_three(out, g, 18, la2);
-    put_signed_three(out, g, 21, lo2);
-}
-
-// Octets 24 to 32.
-fn put_steps(out: &mut [u8], g: usize, di: u16, dj: u16, scan: u8)
-    requires { ⌜ g + 32 ≤ length (now out) ⌝ }
-    ensures { λ _. ⌜ now (out .exit) ≡ placed (now (out .entry)) (g + 23) (laid (stepFields di dj scan) []) ⌝ }
-{
-    put_two(out, g, 24, di);
-    put_two(out, g, 26, dj);
-    put_octet(out, g, 28, scan);
-    put_four(out, g, 29, 0);
-}
-
-// The GDS at place g.
-fn put_gds(out: &mut [u8], g: usize, grid: Grid)
-    requires { ⌜ g + gdsLengthOf grid ≤ length (now out) ⌝ }
-    requires { ⌜ anyOf (gridFaults grid) ≡ false ⌝ }
-    ensures { λ _. ⌜ now (out .exit) ≡ placed (now (out .entry)) g (gdsOf grid) ⌝ }
-{
-    let shape = grid.shape;
-    let a = grid.geometry;
-    put_shape(out, g, shape.ni, shape.nj);
-    put_corners(out, g, a.la1, a.lo1, a.flags, a.la2, a.lo2);
-    put_steps(out, g, a.di, a.dj, shape.scan);
-}
-
-// The GDS of a grid that is given, and the place after it.
-fn put_grid(out: &mut [u8], g: usize, grid: Found) -> usize
-    requires { ⌜ g + gdsRoom grid ≤ length (now out) ⌝ }
-    requires { ⌜ givenBad grid ≡ false ⌝ }
-    ensures { λ r. ⌜ r ≡ g + gdsRoom grid ⌝ }
-    ensures { λ _. ⌜ now (out .exit) ≡ placed (now (out .entry)) g (gdsFor grid) ⌝ }
-{
-    match grid {
-        Found::Nothing => g,
-        Found::Given(given) => {
-            put_gds(out, g, given);
-            g + GDS_OCTETS
-        }
     }
 }
 
@@ -203,8 +122,9 @@ pub(crate) fn lay_front(
     let bitmap = form.bitmap;
     put_indicator(out, len);
     copy(pds, out, PDS_START);
-    let b = put_grid(out, PDS_START + pds.len(), grid);
-    put_bitmap(out, b, bitmap, marks, n)
+    let g = PDS_START + pds.len();
+    put_gds(out, g, grid);
+    put_bitmap(out, g + gds_room(grid), bitmap, marks, n)
 }
 
 // What stands in a BDS before its data; octet 4 holds flags and unused bits.

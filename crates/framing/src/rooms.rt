@@ -5,18 +5,15 @@ ghost use lib.ListN.{length};
 ghost use Rattle.bits.specs.Bits.{octetsFor};
 ghost use Rattle.rules.specs.Bounds.{bmsHead, pdsMost, pointsMost, bitsMost};
 ghost use Rattle.rules.specs.Numbers.{evenFrom};
-ghost use Rattle.framing.specs.Layout.{gdsRoom, bmsRoom, bdsRoom, messageRoom};
+ghost use Rattle.framing.specs.Layout.{bmsRoom, bdsRoom, messageRoom};
+use gds_put::gds_room;
 use layout::PDS_START;
 use rules::Bitmap;
 use rules::Form;
-use rules::Found;
 use rules::bounds::BDS_HEAD;
 use rules::bounds::BMS_HEAD;
-use rules::bounds::GDS_LENGTH;
 
-// The lengths of a GDS and of what stands before a section's bits, as places are counted.
-pub(crate) const GDS_OCTETS: usize = GDS_LENGTH as usize;
-
+// What stands before a section's bits, as places are counted.
 pub(crate) const BMS_OCTETS: usize = BMS_HEAD as usize;
 
 pub(crate) const BDS_OCTETS: usize = BDS_HEAD as usize;
@@ -27,16 +24,6 @@ fn even(c: usize) -> usize
     ensures { λ r. ⌜ r ≡ evenFrom c ⌝ }
 {
     c + c % 2
-}
-
-// How many octets a GDS takes.
-fn gds_room(grid: Found) -> usize
-    ensures { λ r. ⌜ r ≡ gdsRoom grid ⌝ }
-{
-    match grid {
-        Found::Nothing => 0,
-        Found::Given(_) => GDS_OCTETS,
-    }
 }
 
 // How many octets a BMS takes whose bits follow.

@@ -2,7 +2,8 @@
 // that C can pass is without a meaning, and all buffers are lent by the caller. include/grib1.h declares the records
 // and functions for C.
 ghost use mathlib.Core.Path.{_≡_};
-ghost use Rattle.rules.specs.Chart.{charted, pointed};
+ghost use Rattle.rules.specs.Chart.{rowLong, charted, pointed};
+ghost use Rattle.rules.specs.Grid.{shapeOf};
 ghost use Rattle.rules.specs.Reading.{headerOf, readOf, valuesAfter, marksAfter, sectionOf, bitmapOf, numberingOf};
 ghost use Rattle.rules.specs.Display.{displayOf};
 ghost use Rattle.rules.specs.Writing.{writeOf, outputAfter, lengthFor};
@@ -14,6 +15,7 @@ ghost use Rattle.point_records.specs.Records.{forceRecord, dataRecord};
 ghost use Rattle.records.specs.Records.{partRecord, headerRecord, placeRecord, pointRecord, displayRecord};
 ghost use Rattle.records.specs.Records.{writtenRecord, checkRecord};
 ghost use Rattle.rules.specs.Bitmap.{lentAs};
+use chart::shape_of;
 use point_records::DataRecord;
 use point_records::data_record;
 use point_records::force_record;
@@ -29,6 +31,7 @@ use records::WrittenRecord;
 use records::check_record;
 use records::display_record;
 use records::form_by;
+use records::grid_back;
 use records::header_record;
 use records::part_record;
 use records::place_record;
@@ -36,7 +39,6 @@ use records::point_record;
 use records::scale_by;
 use records::written_record;
 use rules::GridPoint;
-use rules::Shape;
 use rules::Spot;
 
 // The header of a message, with the stored bitmap of a number lent.
@@ -102,23 +104,25 @@ pub extern "C" fn grib1_display(message: &[u8], number: u16, store: &[u8]) -> Di
 // Where a grid point lies on the chart of a grid. Of the grid the shape alone counts, and any will do.
 #[no_mangle]
 pub extern "C" fn grib1_place(grid: GridRecord, point: u32) -> PlaceRecord
-    ensures { λ r. ⌜ r ≡ placeRecord (charted (gridBack grid .shape) (record { 0 = point })) ⌝ }
+    ensures { λ r. ⌜ r ≡ placeRecord (charted (shapeOf (gridBack grid)) (record { 0 = point })) ⌝ }
 {
-    let ni = grid.ni;
-    let nj = grid.nj;
-    let scan = grid.scan;
-    place_record(chart::spot_of(Shape { ni, nj, scan }, GridPoint(point)))
+    place_record(chart::spot_of(shape_of(grid_back(grid)), GridPoint(point)))
 }
 
 // The grid point that lies at a place of that chart.
 #[no_mangle]
 pub extern "C" fn grib1_point(grid: GridRecord, row: u32, column: u32) -> PointRecord
-    ensures { λ r. ⌜ r ≡ pointRecord (pointed (gridBack grid .shape) (record { row = row; column = column })) ⌝ }
+    ensures { λ r. ⌜ r ≡ pointRecord (pointed (shapeOf (gridBack grid)) (record { row = row; column = column })) ⌝ }
 {
-    let ni = grid.ni;
-    let nj = grid.nj;
-    let scan = grid.scan;
-    point_record(chart::point_at(Shape { ni, nj, scan }, Spot { row, column }))
+    point_record(chart::point_at(shape_of(grid_back(grid)), Spot { row, column }))
+}
+
+// How many points a row of that chart has; a row outside the chart has none.
+#[no_mangle]
+pub extern "C" fn grib1_row(grid: GridRecord, row: u32) -> u32
+    ensures { λ n. ⌜ n ≡ rowLong (shapeOf (gridBack grid)) row ⌝ }
+{
+    chart::row_long(shape_of(grid_back(grid)), row)
 }
 
 // The data number of a grid point of a message.

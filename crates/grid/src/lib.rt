@@ -1,77 +1,31 @@
-// The grid of a message: its GDS or the catalogue's, and refusals 7 to 9. All total.
+// The grid of a message, whoever gives it: a GDS or the catalogue. Its points, and refusals 7 and 9. All total.
 ghost use mathlib.Core.Path.{_≡_};
-ghost use mathlib.Core.Bool.{cond, _||_};
+ghost use mathlib.Core.List.{_++_};
+ghost use Prim.Native.Nat.{_*_};
 ghost use Rattle.rules.specs.Table.{anyOf};
 ghost use Rattle.rules.specs.Bounds.{sideMost, pointsMost, latitudeMost, longitudeMost};
 ghost use Rattle.rules.specs.Numbers.{notWithin, beyond};
-ghost use Rattle.rules.specs.Chart.{pointsOn};
-ghost use Rattle.rules.specs.declared.Found.the-variants.{Nothing, Given};
-ghost use Rattle.rules.specs.Grid.{gridAt, gridFrom, gridMissing, theGrid, noGrid, gdsFaults, pointsOf, scanBad};
-ghost use Rattle.rules.specs.Grid.{gridFaults};
+ghost use Rattle.rules.specs.declared.Geometry.the-variants.{LatLon, Thinned};
+ghost use Rattle.rules.specs.Columns.{cellsFaults};
+ghost use Rattle.rules.specs.Grid.{latlon, thinned, columns, cellsBy, pointsOf, gridFrom, gridMissing, theGrid, noGrid};
+ghost use Rattle.rules.specs.Grid.{scanBad, kindFaults, gridFaults};
 use catalogue::catalogued;
+use catalogue::is_octant;
 use chart::points_on;
+use chart::shape_of;
 use choices::choose;
 use octets::octet;
 use octets::plain;
-use octets::signed_three;
-use octets::two;
+use rules::Edges;
 use rules::Found;
 use rules::Geometry;
 use rules::Grid;
-use rules::Part;
-use rules::Shape;
+use rules::Octant;
 use rules::Signed;
-use rules::bounds::GDS_LENGTH;
 use rules::bounds::LATITUDE_MOST;
 use rules::bounds::LONGITUDE_MOST;
 use rules::bounds::POINTS_MOST;
 use rules::bounds::SIDE_MOST;
-
-// Ni, Nj and the scanning flags of the GDS at a place.
-fn shape_at(s: &[u8], g: usize) -> Shape
-    ensures { λ r. ⌜ r ≡ gridAt (now (s .entry)) g .shape ⌝ }
-{
-    Shape {
-        ni: two(s, g, 7),
-        nj: two(s, g, 9),
-        scan: octet(s, g, 28),
-    }
-}
-
-// Its other fields.
-fn geometry_at(s: &[u8], g: usize) -> Geometry
-    ensures { λ r. ⌜ r ≡ gridAt (now (s .entry)) g .geometry ⌝ }
-{
-    Geometry {
-        la1: signed_three(s, g, 11),
-        lo1: signed_three(s, g, 14),
-        flags: octet(s, g, 17),
-        la2: signed_three(s, g, 18),
-        lo2: signed_three(s, g, 21),
-        di: two(s, g, 24),
-        dj: two(s, g, 26),
-    }
-}
-
-// The fields of the GDS at a place.
-fn grid_at(s: &[u8], g: usize) -> Grid
-    ensures { λ r. ⌜ r ≡ gridAt (now (s .entry)) g ⌝ }
-{
-    Grid {
-        shape: shape_at(s, g),
-        geometry: geometry_at(s, g),
-    }
-}
-
-// The grid of the GDS at a place, where there is one.
-pub fn grid_in(s: &[u8], there: bool, start: u32) -> Found
-    ensures { λ r. ⌜ r ≡ cond there (Given (gridAt (now (s .entry)) start)) Nothing ⌝ }
-{
-    if there {
-        return Found::Given(grid_at(s, start as usize));
-    }
-    Found::Nothing
-}
 
 // The grid given, else the one that octet 7 of the PDS at place p picks from the catalogue.
 pub fn grid_from(given: Found, s: &[u8], p: usize) -> Found
@@ -98,21 +52,20 @@ fn no_grid() -> Grid
     ensures { λ r. ⌜ r ≡ noGrid ⌝ }
 {
     let none = plain(0);
+    let edges = Edges {
+        la2: none,
+        lo2: none,
+        di: 0,
+        dj: 0,
+    };
     Grid {
-        shape: Shape {
-            ni: 0,
-            nj: 0,
-            scan: 0,
-        },
-        geometry: Geometry {
-            la1: none,
-            lo1: none,
-            flags: 0,
-            la2: none,
-            lo2: none,
-            di: 0,
-            dj: 0,
-        },
+        ni: 0,
+        nj: 0,
+        la1: none,
+        lo1: none,
+        flags: 0,
+        scan: 0,
+        geometry: Geometry::LatLon(edges),
     }
 }
 
@@ -126,19 +79,11 @@ pub fn the_grid(f: Found) -> Grid
     }
 }
 
-// Refusal 8 of the GDS at p: its length, or one of octets 4 to 6.
-pub fn gds_bad(s: &[u8], p: Part) -> bool
-    ensures { λ r. ⌜ r ≡ anyOf (gdsFaults (now (s .entry)) p) ⌝ }
-{
-    let g = p.start as usize;
-    (p.len != GDS_LENGTH) | (octet(s, g, 4) != 0) | (octet(s, g, 5) != 255) | (octet(s, g, 6) != 0)
-}
-
 // n, of a grid.
 pub fn points(g: Grid) -> u32
     ensures { λ r. ⌜ r ≡ pointsOf g ⌝ }
 {
-    points_on(g.shape)
+    points_on(shape_of(g))
 }
 
 // "Latitude magnitude is at most 90,000".
@@ -167,26 +112,56 @@ fn scan_bad(nj: u16, scan: u8, la1: Signed, la2: Signed) -> bool
         )
 }
 
-// Refusal 9, of what points and places ask.
-fn shape_bad(g: Shape) -> bool
-    ensures { λ r. ⌜ r ≡
-        (notWithin 1 sideMost (g .ni) || notWithin 1 sideMost (g .nj)) || notWithin 1 pointsMost (pointsOn g) ⌝ }
+// Ni or Nj, "least 1, most 65,534".
+fn side_bad(n: u16) -> bool
+    ensures { λ r. ⌜ r ≡ notWithin 1 sideMost n ⌝ }
 {
-    let n = points_on(g);
-    ((g.ni < 1) | (SIDE_MOST < g.ni))
-        | ((g.nj < 1) | (SIDE_MOST < g.nj))
-        | ((n < 1) | (POINTS_MOST < n))
+    (n < 1) | (SIDE_MOST < n)
+}
+
+// "points n = Ni × Nj", of a rectangle.
+fn points_bad(ni: u16, nj: u16) -> bool
+    ensures { λ r. ⌜ r ≡ notWithin 1 pointsMost (ni * nj) ⌝ }
+{
+    let n = ni as u32 * nj as u32;
+    (n < 1) | (POINTS_MOST < n)
+}
+
+// Refusal 9 of a latitude/longitude grid.
+fn latlon_bad(g: Grid, x: Edges) -> bool
+    ensures { λ r. ⌜ r ≡
+        anyOf (kindFaults g (LatLon x) ++ cellsFaults (columns latlon) (cellsBy g (LatLon x))) ⌝ }
+{
+    points_bad(g.ni, g.nj)
+        | scan_bad(g.nj, g.scan, g.la1, x.la2)
+        | side_bad(g.ni)
+        | side_bad(g.nj)
+        | latitude_bad(g.la1)
+        | longitude_bad(g.lo1)
+        | latitude_bad(x.la2)
+        | longitude_bad(x.lo2)
+}
+
+// Refusal 9 of a thinned octant.
+fn thinned_bad(g: Grid, o: Octant) -> bool
+    ensures { λ r. ⌜ r ≡
+        anyOf (kindFaults g (Thinned o) ++ cellsFaults (columns thinned) (cellsBy g (Thinned o))) ⌝ }
+{
+    let x = o.edges;
+    !is_octant(g)
+        | latitude_bad(g.la1)
+        | longitude_bad(g.lo1)
+        | latitude_bad(x.la2)
+        | longitude_bad(x.lo2)
 }
 
 // Refusal 9 of a grid, whoever gives it.
 pub fn grid_bad(g: Grid) -> bool
     ensures { λ r. ⌜ r ≡ anyOf (gridFaults g) ⌝ }
 {
-    let a = g.geometry;
-    shape_bad(g.shape)
-        | latitude_bad(a.la1)
-        | latitude_bad(a.la2)
-        | longitude_bad(a.lo1)
-        | longitude_bad(a.lo2)
-        | scan_bad(g.shape.nj, g.shape.scan, a.la1, a.la2)
+    let x = g.geometry;
+    match x {
+        Geometry::LatLon(e) => latlon_bad(g, e),
+        Geometry::Thinned(o) => thinned_bad(g, o),
+    }
 }

@@ -103,7 +103,7 @@ widths-ge : (fs : List Field) (j : ℕ) → j ≤ widths fs j
 widths-ge [] j = omega arith
 widths-ge (f ∷ fs) j = omega (arith, widths-ge fs (j + f .width))
 
-laid-here : (s : List ℕ) (g j : ℕ) (fs : List Field) (rest : List ℕ) → Wide 8 s → g + widths fs j ≤ length s
+pub laid-here : (s : List ℕ) (g j : ℕ) (fs : List Field) (rest : List ℕ) → Wide 8 s → g + widths fs j ≤ length s
     → Held s g j fs → rest ≡ drop (g + widths fs j) s → laid fs rest ≡ drop (g + j) s
 laid-here s g j [] rest w l h e = e
 laid-here s g j (f ∷ fs) rest w l h e =

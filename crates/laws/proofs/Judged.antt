@@ -10,7 +10,7 @@ use Rattle.rules.specs.Table.{row, refusal, accepted, anyOf}
 use Rattle.rules.specs.Places.{pdsStart, endStart, hasGrid, hasBitmap, placesOf, sizeBad, gribBad, editionBad}
 use Rattle.rules.specs.Places.{totalFaults, placesFaults}
 use Rattle.rules.specs.Time.{timeFaults}
-use Rattle.rules.specs.Grid.{gridMissing, theGrid, gdsFaults, gridFaults}
+use Rattle.rules.specs.Grid.{gridMissing, theGrid, gdsBad, gridFaults}
 use Rattle.rules.specs.Bitmap.{Lent, bitmapFaults}
 use Rattle.rules.specs.Values.{packingFaults, lengthBad}
 use Rattle.rules.specs.Reading.{gridOf, pointsIn, bitmapIn, presentCount, packingIn}
@@ -28,7 +28,7 @@ pub record Judged (s : List ℕ) (lent : Lent) : Type 0 where
   pub places : anyOf (placesFaults (endStart s) (hasGrid s pdsStart) (hasBitmap s pdsStart) (placesOf s)) ≡ false
   pub time : anyOf (timeFaults s pdsStart) ≡ false
   pub found : gridMissing (gridOf s) ≡ false
-  pub gds : (hasGrid s pdsStart && anyOf (gdsFaults s (placesOf s .gds))) ≡ false
+  pub gds : (hasGrid s pdsStart && gdsBad s (placesOf s .gds)) ≡ false
   pub grid : anyOf (gridFaults (theGrid (gridOf s))) ≡ false
   pub bitmap : anyOf (bitmapFaults s lent (placesOf s .bms) (bitmapIn s) (pointsIn s)) ≡ false
   pub packing : anyOf (packingFaults (packingIn s)) ≡ false

@@ -1,25 +1,31 @@
--- How many octets a grid section and a data section take; by their lists of fields.
+-- How many octets a grid section and a data section take; by their tables and lists of fields.
 use Prim.Native.Nat.{ℕ, _+_, _-_, _*_}
 use mathlib.Core.Path.{_≡_, refl, ap, _∙_}
 use mathlib.Core.List.{List, [], _∷_}
+use native.Mathlib.Nat.{add-zero}
 use native.Mathlib.Omega.{arith}
 use lib.ListN.{length}
 use Rattle.bits.specs.Bits.{bitsIn, runs, octetsFor}
 use Rattle.bits.proofs.Trip.{length-runs}
 use Rattle.rules.specs.declared.{Grid.Grid, Packing.Packing, Scale.Scale}
-use Rattle.rules.specs.Bounds.{gdsLength, bdsHead}
+use Rattle.rules.specs.Bounds.{bdsHead}
 use Rattle.rules.specs.Numbers.{Field, laid, evenFrom}
-use Rattle.rules.specs.Grid.{gridFields, gdsOf}
+use Rattle.rules.specs.Columns.{cellsFields}
+use Rattle.rules.specs.Grid.{columns, lengthBy, kindOf, cellsOf, gdsLengthOf, gridFields, gdsOf}
 use Rattle.rules.specs.Values.{bdsFields, bdsOf}
-use Rattle.laws.proofs.Fields.{laid-length}
+use Rattle.laws.proofs.Fields.{widths, laid-length}
+use Rattle.laws.proofs.Columns.{widths-tile, kind-tiles}
 
 pub gds-laid : (g : Grid) → gdsOf g ≡ laid (gridFields g) []
 unfolding gdsOf
 gds-laid g = refl
 
-pub gds-length : (g : Grid) → length (gdsOf g) ≡ gdsLength
+pub gds-length : (g : Grid) → length (gdsOf g) ≡ gdsLengthOf g
 unfolding gridFields
-gds-length g = ap length (gds-laid g) ∙ laid-length (gridFields g) []
+gds-length g =
+    let k = kindOf (g .geometry) in
+    ap length (gds-laid g) ∙ laid-length (gridFields g) [] ∙ add-zero (widths (cellsFields (columns k) (cellsOf g)) 6)
+    ∙ widths-tile (columns k) 6 (lengthBy k) (kind-tiles k) (cellsOf g)
 
 -- a section's length, of t bits after its head, and the bits left over
 abbrev pub dataLen : ℕ → ℕ

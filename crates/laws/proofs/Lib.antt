@@ -6,6 +6,10 @@ pub mod Whole
 pub mod Flags
 pub mod Signs
 pub mod Lead
+pub mod Columns
+pub mod Counts
+pub mod Charts
+pub mod Grids
 -- what a taken message is
 pub mod Judged
 pub mod Sections

@@ -9,7 +9,7 @@ use Rattle.rules.specs.Table.{Row, row, anyOf}
 use Rattle.rules.specs.Places.{pdsStart, endStart, hasGrid, hasBitmap, sizeBad, gribBad, editionBad, totalFaults}
 use Rattle.rules.specs.Places.{placesFaults}
 use Rattle.rules.specs.Time.{timeFaults}
-use Rattle.rules.specs.Grid.{gridMissing, theGrid, gdsFaults, gridFaults}
+use Rattle.rules.specs.Grid.{gridMissing, theGrid, gdsBad, gridFaults}
 use Rattle.rules.specs.Bitmap.{Lent, bitmapFaults}
 use Rattle.rules.specs.Values.{packingFaults}
 
@@ -28,7 +28,7 @@ layoutRows s p =
 unfoldable pub gridRows : List ℕ → Places → Found → List Row
 gridRows s p found =
     row 7 (gridMissing found)
-    ∷ row 8 (hasGrid s pdsStart && anyOf (gdsFaults s (p .gds)))
+    ∷ row 8 (hasGrid s pdsStart && gdsBad s (p .gds))
     ∷ row 9 (anyOf (gridFaults (theGrid found)))
     ∷ []
 

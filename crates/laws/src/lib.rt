@@ -1,2 +1,2 @@
-// No code: proofs/ has the laws of the definitions of document 01 that code cites, and specs/ the few words in which
-// they are stated. What is proved for its own sake stands in `theorems`, above all code.
+// No code: proofs/ has the laws of the definitions in `rules` that code cites, and specs/ the few words in which they
+// are stated. What is proved for its own sake stands in `theorems`, above all code.

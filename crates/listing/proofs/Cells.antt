@@ -1,16 +1,14 @@
--- The chart's cells: the grid point at a place inside the chart is one of the grid's, by the two cases of the scanning
--- order; cells and rows written one after another, by the laws of written text.
-use mathlib.Core.Path.{_≡_, refl, sym, ap, _∙_, subst}
+-- The chart's cells: the grid point at a place inside the chart is one of the grid's; cells and rows written one after
+-- another, by the laws of written text; and the room that they take, by the laws of the chart's rows.
+use mathlib.Core.Path.{_≡_, sym, ap, subst}
 use mathlib.Core.Bool.{Bool, true, false, cond}
-use Prim.Native.Nat.{ℕ, suc, _+_, _*_, _≤_, _<_}
-use native.Mathlib.Nat.{mul-comm, mul-assoc, suc-mul, mul-le-mul-right}
+use Prim.Native.Nat.{ℕ, zero, suc, _+_, _*_, _≤_, _<_}
 use native.Mathlib.Omega.{arith}
 use borrow.Author.Tests.{lt-ltb}
 use mathlib.Core.List.{List, [], _∷_}
 use lib.Dec.{eqb}
-use lib.ListN.{length, getD}
-use lib.Arith.{digits-lt}
-use Rattle.chart.proofs.Laws.{turned-lt}
+use lib.ListN.{length, getD, length-append}
+use Rattle.laws.proofs.Charts.{point-lt, rowsTo, rows-to}
 use Rattle.rules.specs.declared.{Shape.Shape, GridPoint.GridPoint, Spot.Spot, Pointed.Pointed, Pointed.the-variants.At}
 use Rattle.rules.specs.declared.{Pointed.the-variants.Off}
 use Rattle.rules.specs.Bitmap.{markOf, valueOf}
@@ -18,23 +16,9 @@ use Rattle.rules.specs.Listing.{hyphen, joinedTo, stop, ended, line, decimal, c
 use Rattle.listing.specs.Text.{Wrote}
 use Rattle.listing.proofs.Writes.{wrote-part, wrote-next, joined-most, ended-most}
 use Rattle.listing.proofs.Digits.{decimal-most}
-use Rattle.rules.specs.Chart.{west, north, byColumn, pointOf, pointsOn, rowsOn, rowLong, pointOn, pointed}
-
--- a point of a rectangle
-lt-all : (ni nj scan : ℕ) (c : Spot) → c .row < nj → c .column < ni → pointOf ni nj scan c < ni * nj
-unfolding pointOf
-lt-all ni nj scan c hr hc =
-    go (byColumn scan) _ _ (turned-lt (west scan) ni (c .column) _ refl hc)
-    (turned-lt (north scan) nj (c .row) _ refl hr)
-  where
-    go : (t : Bool) (i j : ℕ) → i < ni → j < nj → cond t (i * nj + j) (j * ni + i) < ni * nj
-    go true i j h k = digits-lt h k
-    go false i j h k = subst (λ (x : ℕ). j * ni + i < x) (mul-comm nj ni) (digits-lt k h)
+use Rattle.rules.specs.Chart.{pointsOn, rowsOn, rowLong, pointOn, pointed}
 
 module _ (g : Shape) (c : Spot) (hr : c .row < rowsOn g) (hc : c .column < rowLong g (c .row)) where
-  pub point-lt : pointOn g c < pointsOn g
-  point-lt = lt-all (g .ni) (g .nj) (g .scan) c hr hc
-
   inside : pointed g c ≡ At (record { 0 = pointOn g c })
   unfolding pointed
   inside = rw (lt-ltb (c .row) (rowsOn g) hr, lt-ltb (c .column) (rowLong g (c .row)) hc)
@@ -44,7 +28,7 @@ module _ (g : Shape) (c : Spot) (hr : c .row < rowsOn g) (hc : c .column < rowLo
       let i = inside in
       let same : q ≡ record { 0 = pointOn g c } = cc in
       let is : q .0 ≡ pointOn g c = ap (λ (x : GridPoint). x .0) same in
-      (is, subst (λ (x : ℕ). x < pointsOn g) (sym is) point-lt)
+      (is, subst (λ (x : ℕ). x < pointsOn g) (sym is) (point-lt g c hr hc))
 
   pub never-off : (p : Pointed) → p ≡ pointed g c → p ≡ Off → ⊥
   never-off p e f =
@@ -104,19 +88,20 @@ rows-done t u at next values marks g r e a =
 
 -- the room that is left for one more row
 pub rows-most : (values marks : List ℕ) (g : Shape) (r : ℕ)
-    → length (joinedTo (rowLine (markOf marks) values g) r) ≤ r * (g .ni * 11)
-rows-most values marks g r = joined-most (rowLine (markOf marks) values g) (g .ni * 11) (row-most values marks g) r
+    → length (joinedTo (rowLine (markOf marks) values g) r) ≤ rowsTo g r * 11
+unfolding joinedTo
+rows-most values marks g zero = omega arith
+rows-most values marks g (suc r) =
+    let a = rows-most values marks g r in
+    let b = row-most values marks g r in
+    let e = length-append (joinedTo (rowLine (markOf marks) values g) r) (rowLine (markOf marks) values g r) in
+    omega (arith, a, b, e)
 
-pub rows-room : (ni nj r : ℕ) → r ≡ nj → r * (ni * 11) ≡ ni * nj * 11
-rows-room ni nj r e =
-    ap (λ (x : ℕ). x * (ni * 11)) e ∙ sym (mul-assoc nj ni 11) ∙ ap (λ (x : ℕ). x * 11) (mul-comm nj ni)
+pub row-room : (g : Shape) (r : ℕ) → r < rowsOn g → rowsTo g r * 11 + rowLong g r * 11 ≤ pointsOn g * 11
+row-room g r h = let a = rows-to g (suc r) (omega (arith, h)) in omega (arith, a)
 
-pub row-room : (ni nj r : ℕ) → r < nj → r * (ni * 11) + ni * 11 ≤ ni * nj * 11
-row-room ni nj r h =
-    let a : suc r * (ni * 11) ≤ nj * (ni * 11) = mul-le-mul-right (ni * 11) h in
-    let b : suc r * (ni * 11) ≡ r * (ni * 11) + ni * 11 = suc-mul r (ni * 11) in
-    let d = rows-room ni nj nj refl in
-    omega arith
+pub rows-room : (g : Shape) (r : ℕ) → r ≡ rowsOn g → rowsTo g r * 11 ≤ pointsOn g * 11
+rows-room g r e = let a = rows-to g r (omega (arith, e)) in omega (arith, a)
 
 -- what stands at a point, by its mark
 pub cell-here : (t u : List ℕ) (at next : ℕ) (values marks : List ℕ) (i x : ℕ) → eqb (markOf marks i) 1 ≡ true

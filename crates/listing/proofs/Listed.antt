@@ -20,7 +20,7 @@ use Rattle.laws.proofs.Judged.{read-zero}
 use Rattle.rules.specs.declared.{Refusal.Refusal, Shape.Shape, Header.Header}
 use Rattle.rules.specs.Bounds.{listedMost, listedRoom}
 use Rattle.rules.specs.Table.{row, refusal, firstOr, first, accepted, filled}
-use Rattle.rules.specs.Grid.{pointsOf}
+use Rattle.rules.specs.Grid.{shapeOf, pointsOf}
 use Rattle.rules.specs.Bitmap.{Lent, markOf, valueOf}
 use Rattle.rules.specs.Points.{scattered}
 use Rattle.rules.specs.Chart.{pointsOn, rowsOn, rowLong, columnsOn, pointOn}
@@ -29,7 +29,7 @@ use Rattle.rules.specs.Reading.{ownRefusal, messageTable, readTable, readRefusa
 use Rattle.rules.specs.Listing.{noStore, decimal, hyphen, cell, stop, ended, line, joinedTo, rowLine, rowLines}
 use Rattle.rules.specs.Listing.{firstLine, refusedLine, listingRefusal, listingOf}
 use Rattle.listing.specs.Text.{Wrote, counts, scales, textRoom, listed}
-use Rattle.listing.proofs.Cells.{point-lt}
+use Rattle.laws.proofs.Charts.{point-lt}
 
 -- what is written is what is answered
 pub answered : (s t u : List ℕ) (r : ℕ) (w : List ℕ) → Wrote t u 0 r w → listed s t ≡ w
@@ -41,21 +41,23 @@ unfolding listed
 too-short s t h = rw (lt-ltb (length t) textRoom h) (refl, sym (placed-none t 0))
 
 -- the first line in two halves
-pub first-done : (t u : List ℕ) (r : ℕ) (h : Header) (columns rows : ℕ) → columns ≡ columnsOn (h .grid .shape)
-    → rows ≡ rowsOn (h .grid .shape)
+pub first-done : (t u : List ℕ) (r : ℕ) (h : Header) (g : Shape) (columns rows : ℕ) → g ≡ shapeOf (h .grid)
+    → columns ≡ columnsOn g → rows ≡ rowsOn g
     → Wrote t u 0 r
     (counts (h .points) (h .present) columns rows
     ++ scales (h .d .value) (h .scale .e .value) (h .scale .r) (h .packing .bits))
     → Wrote t u 0 r (firstLine h)
 unfolding firstLine line joinedTo
-first-done t u r h columns rows ec er a =
+first-done t u r h g columns rows eg ec er a =
     subst (λ (x : List ℕ). Wrote t u 0 r x) (simp append-assoc)
     (subst (λ (x : ℕ). Wrote t u 0 r
-    (counts (h .points) (h .present) (columnsOn (h .grid .shape)) x
-    ++ scales (h .d .value) (h .scale .e .value) (h .scale .r) (h .packing .bits))) er
+    (counts (h .points) (h .present) (columnsOn (shapeOf (h .grid))) x
+    ++ scales (h .d .value) (h .scale .e .value) (h .scale .r) (h .packing .bits)))
+    (er ∙ ap (λ (x : Shape). rowsOn x) eg)
     (subst (λ (x : ℕ). Wrote t u 0 r
     (counts (h .points) (h .present) x rows
-    ++ scales (h .d .value) (h .scale .e .value) (h .scale .r) (h .packing .bits))) ec a))
+    ++ scales (h .d .value) (h .scale .e .value) (h .scale .r) (h .packing .bits)))
+    (ec ∙ ap (λ (x : Shape). columnsOn x) eg) a))
 
 -- a text with room
 roomy : (s t : List ℕ) → textRoom ≤ length t → listed s t ≡ listingOf s
@@ -183,13 +185,13 @@ module _ (s a b : List ℕ) (h : Header) (size : length s ≤ listedMost) (la : 
           )
 
       pub listed-is : (t : List ℕ) → textRoom ≤ length t
-          → listed s t ≡ firstLine h ++ rowLines (markOf m) v (h .grid .shape)
+          → listed s t ≡ firstLine h ++ rowLines (markOf m) v (shapeOf (h .grid))
       unfolding listingOf
       listed-is t room =
-          let g = h .grid .shape in
+          let g = shapeOf (h .grid) in
           let n = points-of in
           roomy s t room ∙ rw listing-taken
-          (ap (λ (x : Header). firstLine x ++ rowLines (presentIn s noStore) (valuesIn s noStore) (x .grid .shape))
+          (ap (λ (x : Header). firstLine x ++ rowLines (presentIn s noStore) (valuesIn s noStore) (shapeOf (x .grid)))
           (sym said)
           ∙ ap (λ (x : List ℕ). firstLine h ++ x)
           (rows-ext (presentIn s noStore) (markOf m) (valuesIn s noStore) v g

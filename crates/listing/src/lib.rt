@@ -7,7 +7,7 @@ ghost use lib.ListN.{length};
 ghost use Rattle.bits.specs.Bits.{placed};
 ghost use Rattle.rules.specs.Bounds.{listedRoom};
 ghost use Rattle.rules.specs.Table.{refusal};
-ghost use Rattle.rules.specs.Grid.{pointsOf};
+ghost use Rattle.rules.specs.Grid.{shapeOf, pointsOf};
 ghost use Rattle.rules.specs.Bitmap.{markOf};
 ghost use Rattle.rules.specs.Listing.{rowLines, firstLine, refusedLine};
 ghost use Rattle.listing.specs.Text.{Wrote, counts as theCounts, scales as theScales, textRoom, listed};
@@ -23,6 +23,7 @@ use crate::text::signed;
 use crate::text::word;
 use chart::columns_on;
 use chart::rows_on;
+use chart::shape_of;
 use field::read;
 use rules::Header;
 use rules::Signed;
@@ -62,7 +63,7 @@ fn first_line(text: &mut [u8], h: Header) -> usize
     requires { ⌜ 88 ≤ length (now text) ⌝ }
     ensures { λ r. ⌜ (Wrote (now (text .entry)) (now (text .exit)) 0 r (firstLine h)) × (r ≤ 88) ⌝ }
 {
-    let shape = h.grid.shape;
+    let shape = shape_of(h.grid);
     let half = counts(text, h.points, h.present, columns_on(shape), rows_on(shape));
     scales(text, half, h.d, h.scale.e, h.scale.r, h.packing.bits)
 }
@@ -83,11 +84,11 @@ fn lines(text: &mut [u8], h: Header, values: &[u32], marks: &[u8]) -> usize
     requires { ⌜ pointsOf (h .grid) ≤ listedRoom ⌝ }
     requires { ⌜ listedRoom ≤ length (now values) ⌝ }
     ensures { λ r. ⌜ (Wrote (now (text .entry)) (now (text .exit)) 0 r
-        (firstLine h ++ rowLines (markOf (now (marks .entry))) (now (values .entry)) (h .grid .shape)))
+        (firstLine h ++ rowLines (markOf (now (marks .entry))) (now (values .entry)) (shapeOf (h .grid))))
         × (r ≤ textRoom) ⌝ }
 {
     let next = first_line(text, h);
-    rows(text, next, values, marks, h.grid.shape)
+    rows(text, next, values, marks, shape_of(h.grid))
 }
 
 // Puts the listing of the octets s at the front of the text and answers its length; where the text has less than

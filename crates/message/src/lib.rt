@@ -11,10 +11,10 @@ use data_section::length_bad;
 use data_section::packing_at;
 use data_section::packing_bad;
 use data_section::scale_at;
-use grid::gds_bad;
+use gds::gds_bad;
+use gds::grid_in;
 use grid::grid_bad;
 use grid::grid_from;
-use grid::grid_in;
 use grid::grid_missing;
 use grid::points;
 use grid::the_grid;
@@ -109,7 +109,7 @@ fn parse(s: &[u8]) -> Parsed
     ensures { λ r. ⌜ r ≡ parsedOf (now (s .entry)) ⌝ }
 {
     let places = places(s);
-    let given = grid_in(s, has_grid(s), places.gds.start);
+    let given = grid_in(s, has_grid(s), places.gds);
     let found = grid_from(given, s, PDS_START);
     let grid = the_grid(found);
     Parsed {

@@ -1,16 +1,20 @@
 // What is printed of an answer, one space before each thing.
 //
 // A refusal: its number; `zeros` where all else is zero; `kept` where the lists are as they were. An acceptance: 0;
-// points, present, columns, rows; D, E, R, N, flags; the bitmap's kind; year, month, day, hour, minute; La1, Lo1,
-// resolution flags, La2, Lo2, Di, Dj, scanning flags; row and column of the first two points; the sum of values and
-// marks; `kept` where the elements after n are as they were.
+// points, present, Ni, Nj; D, E, R, N, flags; the bitmap's kind; year, month, day, hour, minute; La1, Lo1, resolution
+// flags, La2, Lo2, Di, Dj, scanning flags; of a thinned octant where its counts begin; row and column of the first two
+// points; the sum of values and marks; `kept` where the elements after n are as they were.
 use crate::lists::marks_kept;
 use crate::lists::summed;
 use crate::lists::values_kept;
+use chart::shape_of;
 use chart::spot_of;
+use kinds::edges_of;
+use kinds::rows_number;
 use libc::STDOUT_FILENO;
 use rules::Bitmap;
 use rules::Charted;
+use rules::Edges;
 use rules::Geometry;
 use rules::Grid;
 use rules::GridPoint;
@@ -82,15 +86,32 @@ fn moment(t: Moment) {
     number(t.minute as u64);
 }
 
-// Corners, resolution flags and steps of a grid.
-fn corners(a: Geometry) {
-    signed(a.la1);
-    signed(a.lo1);
-    number(a.flags as u64);
-    signed(a.la2);
-    signed(a.lo2);
-    number(a.di as u64);
-    number(a.dj as u64);
+// Corners, resolution flags, steps and scanning flags of a grid.
+fn corners(g: Grid) {
+    let geometry = g.geometry;
+    let edges = edges_of(geometry);
+    signed(g.la1);
+    signed(g.lo1);
+    number(g.flags as u64);
+    signed(edges.la2);
+    signed(edges.lo2);
+    number(edges.di as u64);
+    number(edges.dj as u64);
+    number(g.scan as u64);
+}
+
+// Where the counts of a thinned octant begin.
+fn counted(geometry: Geometry) {
+    let rows = rows_number(geometry);
+    if rows == 1 {
+        word(b"equator");
+    }
+    if rows == 2 {
+        word(b"pole");
+    }
+    if 2 < rows {
+        word(b"neither");
+    }
 }
 
 // Row and column of point k, or `off`.
@@ -124,7 +145,9 @@ fn sum(values: &[u32], marks: &[u8], n: usize) {
 
 // All of an accepted answer.
 fn taken(h: Header, values: &[u32], marks: &[u8]) {
-    let g = h.grid.shape;
+    let g = h.grid;
+    let geometry = g.geometry;
+    let shape = shape_of(g);
     let bitmap = h.bitmap;
     whole(h.points);
     whole(h.present);
@@ -137,10 +160,10 @@ fn taken(h: Header, values: &[u32], marks: &[u8]) {
     octet(h.packing.flags);
     kind(bitmap);
     moment(h.time);
-    corners(h.grid.geometry);
-    number(g.scan as u64);
-    spot(g, 0);
-    spot(g, 1);
+    corners(g);
+    counted(geometry);
+    spot(shape, 0);
+    spot(shape, 1);
     let n = h.points as usize;
     sum(values, marks, n);
     lists(values, marks, n);
@@ -156,25 +179,23 @@ fn no_time(t: Moment) -> bool {
     (t.year == 0) & (t.month == 0) & (t.day == 0) & (t.hour == 0) & (t.minute == 0)
 }
 
-// Whether a shape is zeros.
-fn no_shape(g: Shape) -> bool {
-    (g.ni == 0) & (g.nj == 0) & (g.scan == 0)
-}
-
-// Whether a geometry is zeros.
-fn no_geometry(a: Geometry) -> bool {
-    (a.la1.value == 0)
-        & (a.lo1.value == 0)
-        & (a.flags == 0)
-        & (a.la2.value == 0)
-        & (a.lo2.value == 0)
-        & (a.di == 0)
-        & (a.dj == 0)
+// Whether a grid's edges are zeros.
+fn no_edges(a: Edges) -> bool {
+    (a.la2.value == 0) & (a.lo2.value == 0) & (a.di == 0) & (a.dj == 0)
 }
 
 // Whether a grid is zeros.
 fn no_grid(g: Grid) -> bool {
-    no_shape(g.shape) & no_geometry(g.geometry)
+    let geometry = g.geometry;
+    let edges = edges_of(geometry);
+    (g.ni == 0)
+        & (g.nj == 0)
+        & (g.la1.value == 0)
+        & (g.lo1.value == 0)
+        & (g.flags == 0)
+        & (g.scan == 0)
+        & no_edges(edges)
+        & (rows_number(geometry) == 0)
 }
 
 // Whether there is no bitmap.

@@ -7,7 +7,12 @@ use borrow.Author.Tests.{ne-eqb}
 use Rattle.rules.specs.declared.{Grid.Grid, Found.Found, Found.the-variants.Nothing, Found.the-variants.Given}
 use Rattle.rules.specs.declared.{Bitmap.the-variants.Without, Bitmap.the-variants.Carried, Bitmap.the-variants.Stored}
 use Rattle.rules.specs.Table.{anyOf, orAll}
-use Rattle.rules.specs.Grid.{noGrid, theGrid, gridFaults}
+use Rattle.rules.specs.declared.{Start.Start, Start.the-variants.Equator, Start.the-variants.Pole}
+use Rattle.rules.specs.declared.{Start.the-variants.Neither, Geometry.Geometry, Geometry.the-variants.LatLon}
+use Rattle.rules.specs.declared.{Geometry.the-variants.Thinned}
+use Rattle.rules.specs.Numbers.{bit}
+use Rattle.rules.specs.Columns.{cellsFaults}
+use Rattle.rules.specs.Grid.{cellsBy, startNumber, rowsNumber, geometryBy, noGrid, theGrid, scanBad, edgesOf, gridFaults}
 use Rattle.rules.specs.Bitmap.{lentFaults}
 use Rattle.rules.specs.Writing.{storedFaults}
 use Rattle.records.specs.declared.{GridRecord.GridRecord}
@@ -45,7 +50,7 @@ module _ (kind number : ℕ) where
   bitmap-other a b c = rw (ne-eqb kind 0 a, ne-eqb kind 1 b, ne-eqb kind 2 c)
 
 zeros-refused : anyOf (gridFaults noGrid) ≡ true
-unfolding anyOf orAll gridFaults noGrid
+unfolding anyOf orAll cellsFaults cellsBy scanBad bit gridFaults noGrid
 zeros-refused = refl
 
 pub unknown-grid : UnknownGrid
@@ -64,9 +69,22 @@ unknown-bitmap kind number lent values marks n l =
     let e : Stored 0 ≡ bitmapBy kind number = bitmap-other kind number (λ q. omega (arith, l, q)) (λ q. omega (arith, l, q)) (λ q. omega (arith, l, q)) in
     rw (sym e, or-true)
 
+-- a geometry out of its number and edges
+geometry-back : (x : Geometry) → geometryBy (rowsNumber x) (edgesOf x) ≡ x
+unfolding geometryBy
+geometry-back (LatLon x) = refl
+geometry-back (Thinned o) = by (o .start)
+  where
+    by : (f : Start) → geometryBy (startNumber f) (o .edges) ≡ Thinned (record { edges = o .edges; start = f })
+    by Equator = refl
+    by Pole = refl
+    by Neither = refl
+
 pub grid-returns : GridReturns
 unfolding gridBy
-grid-returns g = refl
+grid-returns g =
+    ap (λ (x : Geometry). Given (record { ni = g .ni; nj = g .nj; la1 = g .la1; lo1 = g .lo1; flags = g .flags; scan = g .scan; geometry = x }))
+    (geometry-back (g .geometry))
 
 pub bitmap-returns : BitmapReturns
 unfolding bitmapBy

@@ -11,7 +11,7 @@ use Rattle.rules.specs.declared.{Bitmap.Bitmap, Bitmap.the-variants.Without, Bi
 use Rattle.rules.specs.declared.{Bitmap.the-variants.Stored, Form.Form, Scale.Scale}
 use Rattle.rules.specs.Numbers.{plain}
 use Rattle.rules.specs.Table.{anyOf}
-use Rattle.rules.specs.Grid.{noGrid, theGrid, gridFaults}
+use Rattle.rules.specs.Grid.{geometryBy, noGrid, theGrid, gridFaults}
 use Rattle.rules.specs.Bitmap.{Lent}
 use Rattle.rules.specs.Writing.{storedFaults}
 use Rattle.records.specs.declared.{GridRecord.GridRecord}
@@ -20,8 +20,13 @@ use Rattle.records.specs.Records.{bitmapKind, bitmapNumber, gridRecord}
 
 abbrev pub gridBack : GridRecord → Grid
 gridBack g = record {
-  shape = record { ni = g .ni; nj = g .nj; scan = g .scan };
-  geometry = record { la1 = plain (g .la1); lo1 = plain (g .lo1); flags = g .resolution; la2 = plain (g .la2); lo2 = plain (g .lo2); di = g .di; dj = g .dj };
+  ni = g .ni;
+  nj = g .nj;
+  la1 = plain (g .la1);
+  lo1 = plain (g .lo1);
+  flags = g .resolution;
+  scan = g .scan;
+  geometry = geometryBy (g .rows) (record { la2 = plain (g .la2); lo2 = plain (g .lo2); di = g .di; dj = g .dj });
 }
 
 -- 0 no grid, 1 the one in the record, any other number a grid of zeros, which 9 refuses

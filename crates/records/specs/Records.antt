@@ -6,6 +6,7 @@ use Rattle.rules.specs.declared.{Refusal.Refusal, Written.Written, Display.Disp
 use Rattle.rules.specs.declared.{Bitmap.the-variants.Without, Bitmap.the-variants.Carried, Bitmap.the-variants.Stored}
 use Rattle.rules.specs.declared.{Header.Header, Charted.Charted, Charted.the-variants.On, Charted.the-variants.Off}
 use Rattle.rules.specs.declared.{Pointed.Pointed, Pointed.the-variants.At, Pointed.the-variants.Off as Nowhere}
+use Rattle.rules.specs.Grid.{rowsNumber, edgesOf}
 use Rattle.records.specs.declared.{PartRecord.PartRecord, GridRecord.GridRecord, HeaderRecord.HeaderRecord}
 use Rattle.records.specs.declared.{PlaceRecord.PlaceRecord, PointRecord.PointRecord, DisplayRecord.DisplayRecord}
 use Rattle.records.specs.declared.{WrittenRecord.WrittenRecord, CheckRecord.CheckRecord}
@@ -28,20 +29,22 @@ partBy stored p = record { stored = cond stored 1 0; start = p .start; len = p .
 abbrev pub partRecord : Part → PartRecord
 partRecord p = partBy false p
 
+-- how many points each row has is a number: 0 Ni in every row, 1 and 2 an octant's counts, 3 counts that no octant has
 abbrev pub gridRecord : Grid → GridRecord
 gridRecord g =
-    let a = g .geometry in
+    let x = edgesOf (g .geometry) in
     record {
-      la1 = a .la1 .value;
-      lo1 = a .lo1 .value;
-      la2 = a .la2 .value;
-      lo2 = a .lo2 .value;
-      ni = g .shape .ni;
-      nj = g .shape .nj;
-      di = a .di;
-      dj = a .dj;
-      resolution = a .flags;
-      scan = g .shape .scan;
+      la1 = g .la1 .value;
+      lo1 = g .lo1 .value;
+      la2 = x .la2 .value;
+      lo2 = x .lo2 .value;
+      ni = g .ni;
+      nj = g .nj;
+      di = x .di;
+      dj = x .dj;
+      resolution = g .flags;
+      scan = g .scan;
+      rows = rowsNumber (g .geometry);
     }
 
 abbrev pub headerRecord : Header → HeaderRecord

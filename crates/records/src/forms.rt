@@ -3,15 +3,15 @@
 ghost use mathlib.Core.Path.{_≡_};
 ghost use Rattle.records.specs.Forms.{gridBack, gridBy, bitmapBy, formBy, scaleBy};
 use crate::GridRecord;
+use kinds::geometry_by;
 use octets::plain;
 use rules::Bitmap;
+use rules::Edges;
 use rules::Form;
 use rules::Found;
-use rules::Geometry;
 use rules::Grid;
 use rules::Packing;
 use rules::Scale;
-use rules::Shape;
 
 #[repr(C)]
 pub struct FormRecord {
@@ -24,24 +24,23 @@ pub struct FormRecord {
 }
 
 // The grid that a record stands for.
-fn grid_back(g: GridRecord) -> Grid
+pub fn grid_back(g: GridRecord) -> Grid
     ensures { λ r. ⌜ r ≡ gridBack g ⌝ }
 {
+    let edges = Edges {
+        la2: plain(g.la2),
+        lo2: plain(g.lo2),
+        di: g.di,
+        dj: g.dj,
+    };
     Grid {
-        shape: Shape {
-            ni: g.ni,
-            nj: g.nj,
-            scan: g.scan,
-        },
-        geometry: Geometry {
-            la1: plain(g.la1),
-            lo1: plain(g.lo1),
-            flags: g.resolution,
-            la2: plain(g.la2),
-            lo2: plain(g.lo2),
-            di: g.di,
-            dj: g.dj,
-        },
+        ni: g.ni,
+        nj: g.nj,
+        la1: plain(g.la1),
+        lo1: plain(g.lo1),
+        flags: g.resolution,
+        scan: g.scan,
+        geometry: geometry_by(g.rows, edges),
     }
 }
 

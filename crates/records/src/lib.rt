@@ -8,7 +8,10 @@ mod forms; // forms.rt: the record that comes in
 
 pub use forms::FormRecord;
 pub use forms::form_by;
+pub use forms::grid_back;
 pub use forms::scale_by;
+use kinds::edges_of;
+use kinds::rows_number;
 use rules::Bitmap;
 use rules::Charted;
 use rules::Display;
@@ -40,6 +43,7 @@ pub struct GridRecord {
     pub dj: u16,
     pub resolution: u8,
     pub scan: u8,
+    pub rows: u8,
 }
 
 #[repr(C)]
@@ -142,17 +146,19 @@ fn grid_record(g: Grid) -> GridRecord
     ensures { λ r. ⌜ r ≡ gridRecord g ⌝ }
 {
     let a = g.geometry;
+    let x = edges_of(a);
     GridRecord {
-        la1: a.la1.value,
-        lo1: a.lo1.value,
-        la2: a.la2.value,
-        lo2: a.lo2.value,
-        ni: g.shape.ni,
-        nj: g.shape.nj,
-        di: a.di,
-        dj: a.dj,
-        resolution: a.flags,
-        scan: g.shape.scan,
+        la1: value(g.la1),
+        lo1: value(g.lo1),
+        la2: value(x.la2),
+        lo2: value(x.lo2),
+        ni: g.ni,
+        nj: g.nj,
+        di: x.di,
+        dj: x.dj,
+        resolution: g.flags,
+        scan: g.scan,
+        rows: rows_number(a),
     }
 }
 

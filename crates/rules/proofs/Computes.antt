@@ -7,12 +7,16 @@ use Rattle.bits.specs.Bits.{bitOf, bitsIn, run, count, runs, join, putAt, packe
 use Rattle.bits.specs.Tables.{tab, anyBelow, leastBelow}
 use Rattle.rules.specs.Bitmap.{bitmapAt, lentFaults, bitmapFaults, noBitmap, inForce, bitmapOctets, presentBy}
 use Rattle.rules.specs.Bitmap.{bmsOf}
-use Rattle.rules.specs.Chart.{turned, spotOf, pointOf, charted, pointed}
+use Rattle.rules.specs.Counts.{total, rowOf, inRow, beforeRow, fromEquator, countsOf}
+use Rattle.rules.specs.Chart.{turned, spotOf, pointOf, spotAmong, across, pointAmong, pointsOn, rowsOn, rowLong}
+use Rattle.rules.specs.Chart.{columnsOn, spotOn, pointOn, charted, pointed}
+use Rattle.rules.specs.Columns.{cellsAt, cellsFields, cellsFaults, cellsStains, tiles}
 use Rattle.rules.specs.Checking.{anyPresent, sourceFaults, sourceDiffers, scaleFaults, farFrom, pointOut}
 use Rattle.rules.specs.Checking.{checkTable, checkOf}
 use Rattle.rules.specs.Display.{refBits, stepBits, shownReference, shownStep, displayTable, displayOf}
-use Rattle.rules.specs.Grid.{gridAt, gridFields, gdsOf, catalogue, lookup, gridFrom, noGrid, gdsFaults, scanBad}
-use Rattle.rules.specs.Grid.{gridFaults}
+use Rattle.rules.specs.Grid.{gdsBad, kindAt, sameCounts, startOf, gridOfCells, cellsBy, gridAt, gridFields, gdsOf}
+use Rattle.rules.specs.Grid.{gridStains, shapeOf, geometryBy, rectangles, octants, catalogue, lookup, gridFrom}
+use Rattle.rules.specs.Grid.{noGrid, scanBad, gridDiffers, likeOne, gridFaults}
 use Rattle.rules.specs.Listing.{numeral, decimalDigits, decimal, decimalSigned, hexDigits, joinedTo, line, cell}
 use Rattle.rules.specs.Listing.{rowLine, rowLines, firstLine, refusedLine, listingRefusal, listingOf}
 use Rattle.rules.specs.Numbers.{bit, joined, signed}
@@ -35,7 +39,7 @@ use Rattle.rules.specs.Writing.{gridFor, pointsFor, pdsFaults, listsFit,
 use Rattle.rules.specs.Writing.{sectionsFor, message, writeTable, writeRefusal, lengthOf, writeOf, outputAfter}
 
 unfoldable pub computes : ℕ
-unfolding leadingZeros bitOf bitsIn run count runs join putAt packedInto numberAt tab anyBelow leastBelow bitmapAt lentFaults bitmapFaults noBitmap inForce bitmapOctets presentBy bmsOf turned spotOf pointOf charted pointed anyPresent sourceFaults sourceDiffers scaleFaults farFrom pointOut checkTable checkOf refBits stepBits shownReference shownStep displayTable displayOf gridAt gridFields gdsOf catalogue lookup gridFrom noGrid gdsFaults scanBad gridFaults numeral decimalDigits decimal decimalSigned hexDigits joinedTo line cell rowLine rowLines firstLine refusedLine listingRefusal listingOf bit joined signed lowest reference spellingOf stepped above tooWide exponent packedAt packedParts packTable packRefusal packOf packedAfter hasGrid hasBitmap sectionAt placesOf sectionsOf sizeBad gribBad editionBad totalFaults sectionFaults placesFaults dataNumber valueAt scattered gathered gridIn gridOf pointsIn bitmapIn inForceIn presentIn presentCount packingIn scaleIn decimalIn dataIn valuesIn marksIn parsedOf messageTable refusedBy foundBy foundIn ownRefusal answerBy headerOf readTable readRefusal readOf valuesAfter marksAfter bitmapOf sectionOf numberingOf partsIn stains canonical orAll anyOf firstOr first filled yearOf leap daysIn momentFaults momentAt noMoment timeFaults packingAt scaleAt flagsBad packingFaults lengthBad valuesAt bdsOf sizeOf whole wholeOf gridFor pointsFor pdsFaults listsFit storedFaults pointBad partsFaults sectionsFor message writeTable writeRefusal lengthOf writeOf outputAfter
+unfolding leadingZeros bitOf bitsIn run count runs join putAt packedInto numberAt tab anyBelow leastBelow bitmapAt lentFaults bitmapFaults noBitmap inForce bitmapOctets presentBy bmsOf total rowOf inRow beforeRow fromEquator countsOf turned spotOf pointOf spotAmong across pointAmong pointsOn rowsOn rowLong columnsOn spotOn pointOn charted pointed cellsAt cellsFields cellsFaults cellsStains tiles anyPresent sourceFaults sourceDiffers scaleFaults farFrom pointOut checkTable checkOf refBits stepBits shownReference shownStep displayTable displayOf gdsBad kindAt sameCounts startOf gridOfCells cellsBy gridAt gridFields gdsOf gridStains shapeOf geometryBy rectangles octants catalogue lookup gridFrom noGrid scanBad gridDiffers likeOne gridFaults numeral decimalDigits decimal decimalSigned hexDigits joinedTo line cell rowLine rowLines firstLine refusedLine listingRefusal listingOf bit joined signed lowest reference spellingOf stepped above tooWide exponent packedAt packedParts packTable packRefusal packOf packedAfter hasGrid hasBitmap sectionAt placesOf sectionsOf sizeBad gribBad editionBad totalFaults sectionFaults placesFaults dataNumber valueAt scattered gathered gridIn gridOf pointsIn bitmapIn inForceIn presentIn presentCount packingIn scaleIn decimalIn dataIn valuesIn marksIn parsedOf messageTable refusedBy foundBy foundIn ownRefusal answerBy headerOf readTable readRefusal readOf valuesAfter marksAfter bitmapOf sectionOf numberingOf partsIn stains canonical orAll anyOf firstOr first filled yearOf leap daysIn momentFaults momentAt noMoment timeFaults packingAt scaleAt flagsBad packingFaults lengthBad valuesAt bdsOf sizeOf whole wholeOf gridFor pointsFor pdsFaults listsFit storedFaults pointBad partsFaults sectionsFor message writeTable writeRefusal lengthOf writeOf outputAfter
 computes = 0
 
 -- document 01, "Specimen, 94 octets"

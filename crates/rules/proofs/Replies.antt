@@ -5,7 +5,8 @@ use mathlib.Core.Bool.{true, false}
 use Prim.Native.Nat.{ℕ, _+_, _/_, _%_}
 use lib.IntN.{ℤ, pos, negsuc}
 use lib.ListN.{set, take, drop, length}
-use Rattle.rules.specs.declared.{Geometry.Geometry, Form.Form, Found.the-variants.Nothing}
+use Rattle.rules.specs.declared.{Geometry.the-variants.LatLon, Grid.Grid, Form.Form}
+use Rattle.rules.specs.declared.{Found.the-variants.Nothing}
 use Rattle.rules.specs.declared.{Found.the-variants.Given, Bitmap.the-variants.Without}
 use Rattle.rules.specs.declared.{Bitmap.the-variants.Carried, Bitmap.the-variants.Stored}
 use Rattle.rules.specs.Numbers.{plain}
@@ -99,14 +100,22 @@ abbrev with-pds : List ℕ → Parts
 with-pds p = record { pds = p; form = form; scale = parts .scale; lent = nothing; values = parts .values; marks = parts .marks }
 
 -- rows that run north, from a higher latitude to a lower
-abbrev upside-down : Geometry
-upside-down = record { la1 = plain (pos 51000); lo1 = plain (pos 0); flags = 0; la2 = plain (pos 50000); lo2 = plain (pos 0); di = 0; dj = 0 }
+abbrev upside-down : Grid
+upside-down = record {
+  ni = 2;
+  nj = 2;
+  la1 = plain (pos 51000);
+  lo1 = plain (pos 0);
+  flags = 0;
+  scan = 64;
+  geometry = LatLon (record { la2 = plain (pos 50000); lo2 = plain (pos 0); di = 0; dj = 0 });
+}
 
 writing : map (λ w. writeOf w specimen .refusal .number)
     (with-pds (set (parts .pds) 2 30)
     ∷ with-pds (set (parts .pds) 13 0)
     ∷ with-form (record { grid = Nothing; bitmap = Carried; packing = form .packing })
-    ∷ with-form (record { grid = Given (record { shape = grid .shape; geometry = upside-down }); bitmap = Carried; packing = form .packing })
+    ∷ with-form (record { grid = Given upside-down; bitmap = Carried; packing = form .packing })
     ∷ with-form (record { grid = Given grid; bitmap = Stored 7; packing = form .packing })
     ∷ with-form (record { grid = Given grid; bitmap = Carried; packing = record { flags = 4; bits = 3 } })
     ∷ record { pds = parts .pds; form = form; scale = record { e = plain (negsuc 32767); r = 0 }; lent = nothing; values = parts .values; marks = parts .marks }

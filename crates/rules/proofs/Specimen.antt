@@ -5,6 +5,7 @@ use mathlib.Core.Bool.{true, false}
 use lib.IntN.{ℤ, pos, negsuc}
 use lib.ListN.{take, drop}
 use lib.Ieee.{binary64, ofBits}
+use Rattle.rules.specs.declared.{Geometry.the-variants.LatLon}
 use Rattle.rules.specs.declared.{Grid.Grid, Form.Form, Found.the-variants.Given, Bitmap.the-variants.Carried}
 use Rattle.rules.specs.Numbers.{plain}
 use Rattle.rules.specs.Table.{refusal}
@@ -21,8 +22,13 @@ use Rattle.rules.proofs.Computes.{computes, specimen, nothing}
 
 abbrev pub grid : Grid
 grid = record {
-  shape = record { ni = 2; nj = 2; scan = 64 };
-  geometry = record { la1 = plain (pos 50000); lo1 = plain (negsuc 1999); flags = 128; la2 = plain (pos 51000); lo2 = plain (negsuc 999); di = 1000; dj = 1000 };
+  ni = 2;
+  nj = 2;
+  la1 = plain (pos 50000);
+  lo1 = plain (negsuc 1999);
+  flags = 128;
+  scan = 64;
+  geometry = LatLon (record { la2 = plain (pos 51000); lo2 = plain (negsuc 999); di = 1000; dj = 1000 });
 }
 
 header : headerOf specimen nothing

@@ -20,9 +20,19 @@ pdsMost = 1024
 abbrev pub gdsLeast : ℕ
 gdsLeast = 32
 
--- "GDS: length 1-3 is 32"
+-- "GDS: length 1-3 is 32"; document 02, R-1: "The GDS is 178 octets"
 abbrev pub gdsLength : ℕ
 gdsLength = 32
+
+abbrev pub thinnedLength : ℕ
+thinnedLength = 178
+
+-- R-1: "73 rows and 3,447 points"
+abbrev pub octantRows : ℕ
+octantRows = 73
+
+abbrev pub octantPoints : ℕ
+octantPoints = 3447
 
 abbrev pub bmsLeast : ℕ
 bmsLeast = 6

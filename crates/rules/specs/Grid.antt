@@ -1,79 +1,252 @@
--- Document 01, "GDS", the catalogue, and refusals 7 to 9.
-use Prim.Native.Nat.{ℕ}
-use mathlib.Core.Bool.{Bool, true, false, not, _&&_, cond}
-use mathlib.Core.List.{List, [], _∷_, _++_}
+-- Document 01, "GDS", the catalogue, and refusals 7 to 9; document 02, R-1, the thinned octants.
+use Prim.Native.Nat.{ℕ, zero, suc, _+_, _*_}
+use mathlib.Core.Bool.{Bool, true, false, not, _&&_, _||_, cond}
+use mathlib.Core.List.{List, [], _∷_, _++_, map}
 use lib.Dec.{ltb, eqb}
 use lib.IntN.{ℤ, pos, negsuc}
 use lib.Signed.{ltZ}
-use Rattle.rules.specs.declared.{Signed.Signed, Part.Part, Grid.Grid, Entry.Entry, Found.Found}
-use Rattle.rules.specs.declared.{Found.the-variants.Nothing, Found.the-variants.Given}
-use Rattle.rules.specs.Bounds.{gdsLength, sideMost, pointsMost, latitudeMost, longitudeMost}
+use Rattle.rules.specs.declared.{Signed.Signed, Part.Part, Start.Start, Start.the-variants.Equator}
+use Rattle.rules.specs.declared.{Start.the-variants.Pole, Start.the-variants.Neither, Shape.Shape}
+use Rattle.rules.specs.declared.{Shape.the-variants.Even, Shape.the-variants.Uneven, Edges.Edges, Octant.Octant}
+use Rattle.rules.specs.declared.{Geometry.Geometry, Geometry.the-variants.LatLon, Geometry.the-variants.Thinned}
+use Rattle.rules.specs.declared.{Grid.Grid, Entry.Entry, Found.Found, Found.the-variants.Nothing}
+use Rattle.rules.specs.declared.{Found.the-variants.Given}
+use Rattle.rules.specs.Bounds.{gdsLength, thinnedLength, octantRows, pointsMost}
+use Rattle.rules.specs.Counts.{countsOf}
 use Rattle.rules.specs.Chart.{north, pointsOn}
-use Rattle.rules.specs.Numbers.{Field, field, laid, octet, number, plain, signedAt, signedField, notWithin}
-use Rattle.rules.specs.Numbers.{beyond}
+use Rattle.rules.specs.Numbers.{Field, field, laid, octet, plain, notWithin}
+use Rattle.rules.specs.Table.{anyOf}
+use Rattle.rules.specs.Columns.{Sort, carried, side, latitude, longitude, reserved, Column, column, Cells}
+use Rattle.rules.specs.Columns.{cellsAt, cellsFields, cellsFaults, cellsStains}
+
+-- the kinds of grid: each has a table of columns, a length, and octets 5 and 6
+pub data Kind : Type 0 where
+  latlon thinned : Kind
+
+-- R-1: "octets 33-178 list the row counts": so many counts of two octets each, from octet k on
+abbrev pub countColumns : ℕ → ℕ → List Column
+countColumns k zero = []
+countColumns k (suc rows) = column k 2 carried ∷ countColumns (k + 2) rows
 
 -- "Ni 7-8; Nj 9-10; La1 11-13; Lo1 14-16; resolution flags 17; La2 18-20; Lo2 21-23; Di 24-25; Dj 26-27; scanning flags
--- 28"
-unfoldable pub gridAt : List ℕ → ℕ → Grid
-gridAt s g = record {
-  shape = record { ni = number s g 7 8; nj = number s g 9 10; scan = octet s g 28 };
-  geometry = record {
-    la1 = signedAt s g 11 13;
-    lo1 = signedAt s g 14 16;
-    flags = octet s g 17;
-    la2 = signedAt s g 18 20;
-    lo2 = signedAt s g 21 23;
-    di = number s g 24 25;
-    dj = number s g 26 27;
-  };
-}
+-- 28; 29-32 reserved", Ni and Nj of a sort, and further columns
+abbrev pub columnsBy : Sort → List Column → List Column
+columnsBy t more =
+    column 7 2 t
+    ∷ column 9 2 t
+    ∷ column 11 3 latitude
+    ∷ column 14 3 longitude
+    ∷ column 17 1 carried
+    ∷ column 18 3 latitude
+    ∷ column 21 3 longitude
+    ∷ column 24 2 carried
+    ∷ column 26 2 carried
+    ∷ column 28 1 carried
+    ∷ column 29 4 reserved
+    ∷ more
+
+abbrev pub columns : Kind → List Column
+columns latlon = columnsBy side []
+columns thinned = columnsBy carried (countColumns 33 octantRows)
+
+-- "length 1-3 is 32", "The GDS is 178 octets"
+abbrev pub lengthBy : Kind → ℕ
+lengthBy latlon = gdsLength
+lengthBy thinned = thinnedLength
+
+-- "octet 5 is 255", "octet 5 is 33": where the counts begin, if there are any
+abbrev pub fifth : Kind → ℕ
+fifth latlon = 255
+fifth thinned = 33
+
+-- "octet 6 is 0"
+abbrev pub sixth : Kind → ℕ
+sixth latlon = 0
+sixth thinned = 0
+
+abbrev pub kinds : List Kind
+kinds = latlon ∷ thinned ∷ []
+
+-- 8: "GDS length or octets 4 to 6 not as above", and "8 admits this length and octet 5"; octet 4 is 0 in all
+abbrev pub admits : List ℕ → Part → Kind → Bool
+admits s p k =
+    eqb (p .len) (lengthBy k)
+    && (eqb (octet s (p .start) 4) 0
+    && (eqb (octet s (p .start) 5) (fifth k) && eqb (octet s (p .start) 6) (sixth k)))
+
+unfoldable pub gdsBad : List ℕ → Part → Bool
+gdsBad s p = not (anyOf (map (admits s p) kinds))
+
+-- the first kind that a section is admitted as; where there is none, 8 refuses it
+abbrev pub firstKind : List Kind → (Kind → Bool) → Kind
+firstKind [] test = latlon
+firstKind (k ∷ ks) test = cond (test k) k (firstKind ks test)
+
+unfoldable pub kindAt : List ℕ → Part → Kind
+kindAt s p = firstKind kinds (admits s p)
+
+-- the counts that such columns hold, and columns that hold these counts
+abbrev pub countsHeld : (k rows : ℕ) → Cells (countColumns k rows) → List ℕ
+countsHeld k zero x = []
+countsHeld k (suc rows) x = x .0 ∷ countsHeld (k + 2) rows (x .1)
+
+abbrev pub countCells : (k rows : ℕ) → List ℕ → Cells (countColumns k rows)
+countCells k zero counts = tt
+countCells k (suc rows) [] = (0, countCells (k + 2) rows [])
+countCells k (suc rows) (c ∷ counts) = (c, countCells (k + 2) rows counts)
+
+-- which octants' counts these are
+unfoldable pub sameCounts : List ℕ → List ℕ → Bool
+sameCounts [] [] = true
+sameCounts [] (d ∷ ds) = false
+sameCounts (c ∷ cs) [] = false
+sameCounts (c ∷ cs) (d ∷ ds) = eqb c d && sameCounts cs ds
+
+unfoldable pub startOf : List ℕ → Start
+startOf counts =
+    cond (sameCounts counts (countsOf Equator)) Equator (cond (sameCounts counts (countsOf Pole)) Pole Neither)
+
+-- the grid whose section holds these cells
+unfoldable pub gridOfCells : (k : Kind) → Cells (columns k) → Grid
+gridOfCells latlon x =
+    let (ni, (nj, (la1, (lo1, (flags, (la2, (lo2, (di, (dj, (scan, rest)))))))))) = x in
+    record {
+      ni = ni;
+      nj = nj;
+      la1 = la1;
+      lo1 = lo1;
+      flags = flags;
+      scan = scan;
+      geometry = LatLon (record { la2 = la2; lo2 = lo2; di = di; dj = dj });
+    }
+gridOfCells thinned x =
+    let (ni, (nj, (la1, (lo1, (flags, (la2, (lo2, (di, (dj, (scan, (none, counts))))))))))) = x in
+    record {
+      ni = ni;
+      nj = nj;
+      la1 = la1;
+      lo1 = lo1;
+      flags = flags;
+      scan = scan;
+      geometry = Thinned (record {
+        edges = record { la2 = la2; lo2 = lo2; di = di; dj = dj };
+        start = startOf (countsHeld 33 octantRows counts);
+      });
+    }
+
+-- and back
+abbrev pub kindOf : Geometry → Kind
+kindOf (LatLon x) = latlon
+kindOf (Thinned x) = thinned
+
+unfoldable pub cellsBy : Grid → (x : Geometry) → Cells (columns (kindOf x))
+cellsBy g (LatLon x) =
+    (g .ni, (g .nj, (g .la1, (g .lo1, (g .flags, (x .la2, (x .lo2, (x .di, (x .dj, (g .scan, (tt, tt)))))))))))
+cellsBy g (Thinned o) =
+    let x = o .edges in
+    let counts = countCells 33 octantRows (countsOf (o .start)) in
+    (g .ni, (g .nj, (g .la1, (g .lo1, (g .flags, (x .la2, (x .lo2, (x .di, (x .dj, (g .scan, (tt, counts)))))))))))
+
+abbrev pub cellsOf : (g : Grid) → Cells (columns (kindOf (g .geometry)))
+cellsOf g = cellsBy g (g .geometry)
+
+-- the grid that a section says, whatever its octets are
+unfoldable pub gridAt : List ℕ → Part → Grid
+gridAt s p = gridOfCells (kindAt s p) (cellsAt (columns (kindAt s p)) s (p .start))
 
 -- how many octets a GDS of a grid has
 abbrev pub gdsLengthOf : Grid → ℕ
-gdsLengthOf g = gdsLength
+gdsLengthOf g = lengthBy (kindOf (g .geometry))
 
--- "length 1-3 is 32; octet 4 is 0; octet 5 is 255; octet 6 is 0; Ni 7-8; Nj 9-10": octets 1 to 10
-abbrev pub headFields : ℕ → ℕ → ℕ → List Field
-headFields len ni nj = field 3 len ∷ field 1 0 ∷ field 1 255 ∷ field 1 0 ∷ field 2 ni ∷ field 2 nj ∷ []
-
--- "La1 11-13; Lo1 14-16; resolution flags 17; La2 18-20; Lo2 21-23"
-abbrev pub cornerFields : Signed → Signed → ℕ → Signed → Signed → List Field
-cornerFields la1 lo1 flags la2 lo2 =
-    signedField 3 la1 ∷ signedField 3 lo1 ∷ field 1 flags ∷ signedField 3 la2 ∷ signedField 3 lo2 ∷ []
-
--- "Di 24-25; Dj 26-27; scanning flags 28; 29-32 reserved, .. written zero"
-abbrev pub stepFields : ℕ → ℕ → ℕ → List Field
-stepFields di dj scan = field 2 di ∷ field 2 dj ∷ field 1 scan ∷ field 4 0 ∷ []
+-- octets 1 to 6, and what follows them
+abbrev pub headFields : Kind → List Field → List Field
+headFields k rest = field 3 (lengthBy k) ∷ field 1 0 ∷ field 1 (fifth k) ∷ field 1 (sixth k) ∷ rest
 
 unfoldable pub gridFields : Grid → List Field
 gridFields g =
-    let a = g .geometry in
-    headFields (gdsLengthOf g) (g .shape .ni) (g .shape .nj)
-    ++ (cornerFields (a .la1) (a .lo1) (a .flags) (a .la2) (a .lo2) ++ stepFields (a .di) (a .dj) (g .shape .scan))
+    headFields (kindOf (g .geometry)) (cellsFields (columns (kindOf (g .geometry))) (cellsOf g))
 
 unfoldable pub gdsOf : Grid → List ℕ
 gdsOf g = laid (gridFields g) []
 
+-- what keeps a grid section from coming back octet for octet
+unfoldable pub gridStains : List ℕ → Part → List Bool
+gridStains s p = cellsStains (columns (kindAt s p)) s (p .start)
+
+-- how a grid's points lie
+abbrev pub shapeBy : Grid → Geometry → Shape
+shapeBy g (LatLon x) = Even (record { ni = g .ni; nj = g .nj; scan = g .scan })
+shapeBy g (Thinned o) = Uneven (record { start = o .start; scan = g .scan })
+
+unfoldable pub shapeOf : Grid → Shape
+shapeOf g = shapeBy g (g .geometry)
+
+-- n
+abbrev pub pointsOf : Grid → ℕ
+pointsOf g = pointsOn (shapeOf g)
+
+-- how many points each row of a grid has, as a number: 0 Ni in every row, 1 an octant's counts from the equator, 2 from
+-- the pole, 3 counts that no octant has; and the geometry of such a number, another one counting as 3
+abbrev pub startNumber : Start → ℕ
+startNumber Equator = 1
+startNumber Pole = 2
+startNumber Neither = 3
+
+abbrev pub rowsNumber : Geometry → ℕ
+rowsNumber (LatLon x) = 0
+rowsNumber (Thinned o) = startNumber (o .start)
+
+abbrev pub startBy : ℕ → Start
+startBy rows = cond (eqb rows 1) Equator (cond (eqb rows 2) Pole Neither)
+
+unfoldable pub geometryBy : ℕ → Edges → Geometry
+geometryBy rows x = cond (eqb rows 0) (LatLon x) (Thinned (record { edges = x; start = startBy rows }))
+
 -- the catalogue: "resolution flags are 128, our own setting"
-abbrev pub entry : ℕ → ℕ → ℕ → ℤ → ℤ → ℤ → ℤ → ℕ → ℕ → ℕ → Entry
-entry n i j a b c d e f s = record {
+abbrev pub entry : ℕ → ℕ → ℕ → ℤ → ℤ → ℤ → ℤ → ℕ → ℕ → ℕ → ℕ → Entry
+entry n i j a b c d e f s rows = record {
   number = n;
   grid = record {
-    shape = record { ni = i; nj = j; scan = s };
-    geometry = record { la1 = plain a; lo1 = plain b; flags = 128; la2 = plain c; lo2 = plain d; di = e; dj = f };
+    ni = i;
+    nj = j;
+    la1 = plain a;
+    lo1 = plain b;
+    flags = 128;
+    scan = s;
+    geometry = geometryBy rows (record { la2 = plain c; lo2 = plain d; di = e; dj = f });
   };
 }
 
-unfoldable pub catalogue : List Entry
-catalogue =
-    entry 2 144 73 (pos 90000) (pos 0) (negsuc 89999) (pos 357500) 2500 2500 0
-    ∷ entry 3 360 181 (pos 90000) (pos 0) (negsuc 89999) (pos 359000) 1000 1000 0
-    ∷ entry 29 145 37 (pos 0) (pos 0) (pos 90000) (pos 360000) 2500 2500 64
-    ∷ entry 30 145 37 (negsuc 89999) (pos 0) (pos 0) (pos 360000) 2500 2500 64
-    ∷ entry 33 181 46 (pos 0) (pos 0) (pos 90000) (pos 360000) 2000 2000 64
-    ∷ entry 34 181 46 (negsuc 89999) (pos 0) (pos 0) (pos 360000) 2000 2000 64
-    ∷ entry 45 288 145 (pos 90000) (pos 0) (negsuc 89999) (pos 358750) 1250 1250 0
+-- document 01's seven
+unfoldable pub rectangles : List Entry
+rectangles =
+    entry 2 144 73 (pos 90000) (pos 0) (negsuc 89999) (pos 357500) 2500 2500 0 0
+    ∷ entry 3 360 181 (pos 90000) (pos 0) (negsuc 89999) (pos 359000) 1000 1000 0 0
+    ∷ entry 29 145 37 (pos 0) (pos 0) (pos 90000) (pos 360000) 2500 2500 64 0
+    ∷ entry 30 145 37 (negsuc 89999) (pos 0) (pos 0) (pos 360000) 2500 2500 64 0
+    ∷ entry 33 181 46 (pos 0) (pos 0) (pos 90000) (pos 360000) 2000 2000 64 0
+    ∷ entry 34 181 46 (negsuc 89999) (pos 0) (pos 0) (pos 360000) 2000 2000 64 0
+    ∷ entry 45 288 145 (pos 90000) (pos 0) (negsuc 89999) (pos 358750) 1250 1250 0 0
     ∷ []
+
+-- R-1: "grids 37 to 44 .. Ni and Di are all ones, Nj is 73"; corners, Dj and scanning flags are document 003's
+abbrev pub octant : ℕ → ℤ → ℤ → ℤ → ℤ → ℕ → Entry
+octant n a b c d rows = entry n 65535 octantRows a b c d 65535 1250 64 rows
+
+unfoldable pub octants : List Entry
+octants =
+    octant 37 (pos 0) (pos 330000) (pos 90000) (pos 60000) 1
+    ∷ octant 38 (pos 0) (pos 60000) (pos 90000) (pos 150000) 1
+    ∷ octant 39 (pos 0) (pos 150000) (pos 90000) (pos 240000) 1
+    ∷ octant 40 (pos 0) (pos 240000) (pos 90000) (pos 330000) 1
+    ∷ octant 41 (negsuc 89999) (pos 330000) (pos 0) (pos 60000) 2
+    ∷ octant 42 (negsuc 89999) (pos 60000) (pos 0) (pos 150000) 2
+    ∷ octant 43 (negsuc 89999) (pos 150000) (pos 0) (pos 240000) 2
+    ∷ octant 44 (negsuc 89999) (pos 240000) (pos 0) (pos 330000) 2
+    ∷ []
+
+unfoldable pub catalogue : List Entry
+catalogue = rectangles ++ octants
 
 -- the first row of a number
 unfoldable pub lookup : List Entry → ℕ → Found
@@ -95,8 +268,13 @@ unfoldable pub noGrid : Grid
 noGrid =
     let none = plain (pos 0) in
     record {
-      shape = record { ni = 0; nj = 0; scan = 0 };
-      geometry = record { la1 = none; lo1 = none; flags = 0; la2 = none; lo2 = none; di = 0; dj = 0 };
+      ni = 0;
+      nj = 0;
+      la1 = none;
+      lo1 = none;
+      flags = 0;
+      scan = 0;
+      geometry = LatLon (record { la2 = none; lo2 = none; di = 0; dj = 0 });
     }
 
 -- the grid; zeros where there is none, which 7 refuses
@@ -104,31 +282,50 @@ abbrev pub theGrid : Found → Grid
 theGrid Nothing = noGrid
 theGrid (Given g) = g
 
--- 8: "GDS length or octets 4 to 6 not as above"
-unfoldable pub gdsFaults : List ℕ → Part → List Bool
-gdsFaults s p =
-    not (eqb (p .len) gdsLength) ∷ not (eqb (octet s (p .start) 4) 0) ∷ not (eqb (octet s (p .start) 5) 255)
-    ∷ not (eqb (octet s (p .start) 6) 0) ∷ []
-
--- n
-abbrev pub pointsOf : Grid → ℕ
-pointsOf g = pointsOn (g .shape)
-
 -- "If Nj > 1, rows running north need La2 above La1, else La2 below La1; with Nj = 1 this is not tested"
 unfoldable pub scanBad : ℕ → ℕ → Signed → Signed → Bool
 scanBad nj scan la1 la2 =
     ltb 1 nj && not (cond (north scan) (ltZ (la1 .value) (la2 .value)) (ltZ (la2 .value) (la1 .value)))
 
+-- R-1: "by value one of the eight": where two grids differ, field by field, signed fields by their values
+abbrev pub apart : Signed → Signed → Bool
+apart a b = ltZ (a .value) (b .value) || ltZ (b .value) (a .value)
+
+abbrev pub edgesOf : Geometry → Edges
+edgesOf (LatLon x) = x
+edgesOf (Thinned o) = o .edges
+
+unfoldable pub gridDiffers : Grid → Grid → List Bool
+gridDiffers g o =
+    let x = edgesOf (g .geometry) in
+    let y = edgesOf (o .geometry) in
+    not (eqb (g .ni) (o .ni))
+    ∷ not (eqb (g .nj) (o .nj))
+    ∷ apart (g .la1) (o .la1)
+    ∷ apart (g .lo1) (o .lo1)
+    ∷ not (eqb (g .flags) (o .flags))
+    ∷ not (eqb (g .scan) (o .scan))
+    ∷ apart (x .la2) (y .la2)
+    ∷ apart (x .lo2) (y .lo2)
+    ∷ not (eqb (x .di) (y .di))
+    ∷ not (eqb (x .dj) (y .dj))
+    ∷ not (eqb (rowsNumber (g .geometry)) (rowsNumber (o .geometry)))
+    ∷ []
+
+abbrev pub sameGrid : Grid → Grid → Bool
+sameGrid g o = not (anyOf (gridDiffers g o))
+
+unfoldable pub likeOne : List Entry → Grid → Bool
+likeOne [] g = false
+likeOne (e ∷ es) g = sameGrid g (e .grid) || likeOne es g
+
+-- 9, of a grid as a whole: "n .. or the scan test outside the rules"; R-1: "a thinned GDS that isn't by value one of
+-- the eight .. is 9"
+abbrev pub kindFaults : Grid → Geometry → List Bool
+kindFaults g (LatLon x) =
+    notWithin 1 pointsMost (g .ni * g .nj) ∷ scanBad (g .nj) (g .scan) (g .la1) (x .la2) ∷ []
+kindFaults g (Thinned o) = not (likeOne octants g) ∷ []
+
 -- 9: "Ni, Nj, n, a latitude, a longitude or the scan test outside the rules"
 unfoldable pub gridFaults : Grid → List Bool
-gridFaults g =
-    let a = g .geometry in
-    notWithin 1 sideMost (g .shape .ni)
-    ∷ notWithin 1 sideMost (g .shape .nj)
-    ∷ notWithin 1 pointsMost (pointsOf g)
-    ∷ beyond latitudeMost (a .la1 .value)
-    ∷ beyond latitudeMost (a .la2 .value)
-    ∷ beyond longitudeMost (a .lo1 .value)
-    ∷ beyond longitudeMost (a .lo2 .value)
-    ∷ scanBad (g .shape .nj) (g .shape .scan) (a .la1) (a .la2)
-    ∷ []
+gridFaults g = kindFaults g (g .geometry) ++ cellsFaults (columns (kindOf (g .geometry))) (cellsOf g)

@@ -11,6 +11,7 @@ use Rattle.rules.specs.Bounds.{listedMost, listedRoom}
 use Rattle.rules.specs.Table.{row, firstOr, accepted}
 use Rattle.rules.specs.Bitmap.{Lent, marksLong, valueOf}
 use Rattle.rules.specs.Chart.{rowsOn, rowLong, columnsOn, pointOn}
+use Rattle.rules.specs.Grid.{shapeOf}
 use Rattle.rules.specs.Reading.{presentIn, valuesIn, foundIn, readRefusal}
 
 -- text as the octets of its letters
@@ -92,8 +93,8 @@ firstLine h =
     lineOf
     (decimal (h .points)
     ∷ decimal (h .present)
-    ∷ decimal (columnsOn (h .grid .shape))
-    ∷ decimal (rowsOn (h .grid .shape))
+    ∷ decimal (columnsOn (shapeOf (h .grid)))
+    ∷ decimal (rowsOn (shapeOf (h .grid)))
     ∷ decimalSigned (h .d .value)
     ∷ decimalSigned (h .scale .e .value)
     ∷ hexDigits (h .scale .r)
@@ -115,5 +116,5 @@ unfoldable pub listingOf : List ℕ → List ℕ
 listingOf s =
     let r = listingRefusal s in
     let h = foundIn s noStore in
-    cond (accepted r) (firstLine h ++ rowLines (presentIn s noStore) (valuesIn s noStore) (h .grid .shape))
+    cond (accepted r) (firstLine h ++ rowLines (presentIn s noStore) (valuesIn s noStore) (shapeOf (h .grid)))
     (refusedLine r)

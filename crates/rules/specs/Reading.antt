@@ -15,7 +15,7 @@ use Rattle.rules.specs.Table.{Row, row, anyOf, first, refusal, answered,
 use Rattle.rules.specs.Places.{noPart, pdsStart, endStart, hasGrid, hasBitmap, placesOf, sectionsOf, sizeBad}
 use Rattle.rules.specs.Places.{gribBad, editionBad, totalFaults, placesFaults}
 use Rattle.rules.specs.Time.{momentAt, noMoment, timeFaults}
-use Rattle.rules.specs.Grid.{gridAt, gridFrom, gridMissing, noGrid, theGrid, gdsFaults, pointsOf, gridFaults}
+use Rattle.rules.specs.Grid.{gridAt, gridFrom, gridMissing, noGrid, theGrid, gdsBad, pointsOf, gridFaults}
 use Rattle.rules.specs.Bitmap.{Lent, bitmapAt, bitmapFaults, InForce, inForce, noBitmap, bitmapOctets, presentBy}
 use Rattle.rules.specs.Bitmap.{marksOf, marksLong}
 use Rattle.rules.specs.Points.{Numbering, outside, dataNumber, scattered}
@@ -24,7 +24,7 @@ use Rattle.rules.specs.Values.{packingAt, scaleAt, packingFaults, length
 -- the parts of a message, whatever its octets are: its GDS's grid if it has one, its grid, the kind of its bitmap, and
 -- so on
 unfoldable pub gridIn : List ℕ → Found
-gridIn s = cond (hasGrid s pdsStart) (Given (gridAt s (placesOf s .gds .start))) Nothing
+gridIn s = cond (hasGrid s pdsStart) (Given (gridAt s (placesOf s .gds))) Nothing
 
 unfoldable pub gridOf : List ℕ → Found
 gridOf s = gridFrom (gridIn s) s pdsStart
@@ -81,9 +81,10 @@ messageTable s lent =
     ∷ row 6 (anyOf (timeFaults s pdsStart))
     -- "no GDS, octet 7 not in the catalogue"
     ∷ row 7 (gridMissing (gridOf s))
-    -- "GDS length or octets 4 to 6 not as above"
-    ∷ row 8 (hasGrid s pdsStart && anyOf (gdsFaults s (placesOf s .gds)))
-    -- "Ni, Nj, n, a latitude, a longitude or the scan test outside the rules"
+    -- "GDS length or octets 4 to 6 not as above"; R-1: "8 admits this length and octet 5"
+    ∷ row 8 (hasGrid s pdsStart && gdsBad s (placesOf s .gds))
+    -- "Ni, Nj, n, a latitude, a longitude or the scan test outside the rules", "a thinned GDS that isn't by value one
+    -- of the eight"
     ∷ row 9 (anyOf (gridFaults (theGrid (gridOf s))))
     -- "bitmap rule broken, or no such stored bitmap"
     ∷ row 10 (anyOf (bitmapFaults s lent (placesOf s .bms) (bitmapIn s) (pointsIn s)))

@@ -1,7 +1,7 @@
 -- Document 00, demand 2: the parts that reading gives, and when reading and then writing gives the same octets.
 use Prim.Native.Nat.{ℕ, _+_, _-_, _*_}
 use mathlib.Core.Bool.{Bool, false, not, _&&_}
-use mathlib.Core.List.{List, [], _∷_}
+use mathlib.Core.List.{List, [], _∷_, _++_, map}
 use lib.Dec.{eqb}
 use Rattle.bits.specs.Bits.{bitsIn, count}
 use Rattle.rules.specs.declared.{Bitmap.Bitmap, Bitmap.the-variants.Without, Bitmap.the-variants.Carried}
@@ -10,6 +10,7 @@ use Rattle.rules.specs.Bounds.{bmsHead, bdsHead}
 use Rattle.rules.specs.Numbers.{octet, number, sign}
 use Rattle.rules.specs.Table.{anyOf}
 use Rattle.rules.specs.Places.{octetsOf, pdsStart, hasGrid, placesOf}
+use Rattle.rules.specs.Grid.{gridStains}
 use Rattle.rules.specs.Bitmap.{Lent}
 use Rattle.rules.specs.Reading.{gridIn, bitmapIn, packingIn, scaleIn, pointsIn, presentCount, valuesIn, marksIn}
 use Rattle.rules.specs.Writing.{Parts}
@@ -42,22 +43,17 @@ bitmapPaddingSet s (Stored number) b n = false
 abbrev pub dataPaddingSet : List ℕ → ℕ → ℕ → ℕ → Bool
 dataPaddingSet s b len t = paddingSet s ((b + bdsHead) * 8 + t) (8 * (len - bdsHead) - t)
 
--- what keeps a message from coming back octet for octet, each by itself: reserved octets, the grid's four signed
--- fields, the bitmap's padding, E, the data's padding
+-- what keeps a message from coming back octet for octet, each by itself: of the grid section its signed fields and its
+-- reserved octets, the bitmap's padding, E, the data's padding
 unfoldable pub stains : List ℕ → Lent → List Bool
 stains s lent =
     let p = placesOf s in
-    let g = p .gds .start in
     let b = p .bds .start in
-    (hasGrid s pdsStart && not (eqb (number s g 29 32) 0))
-    ∷ (hasGrid s pdsStart && minusZero s g 11 13)
-    ∷ (hasGrid s pdsStart && minusZero s g 14 16)
-    ∷ (hasGrid s pdsStart && minusZero s g 18 20)
-    ∷ (hasGrid s pdsStart && minusZero s g 21 23)
-    ∷ bitmapPaddingSet s (bitmapIn s) (p .bms .start) (pointsIn s)
+    map (λ (stain : Bool). hasGrid s pdsStart && stain) (gridStains s (p .gds))
+    ++ (bitmapPaddingSet s (bitmapIn s) (p .bms .start) (pointsIn s)
     ∷ minusZero s b 5 6
     ∷ dataPaddingSet s b (p .bds .len) (presentCount s lent * packingIn s .bits)
-    ∷ []
+    ∷ [])
 
 -- "when padding and reserved octets are zero and no signed field in the grid or data section is minus zero"
 unfoldable pub canonical : List ℕ → Lent → Bool

@@ -21,8 +21,15 @@ pub const BMS_HEAD: u32 = 6;
 
 pub const BDS_HEAD: u32 = 11;
 
-// "GDS: length 1-3 is 32".
+// "GDS: length 1-3 is 32"; of a thinned octant "178 octets".
 pub const GDS_LENGTH: u32 = 32;
+
+pub const THINNED_LENGTH: u32 = 178;
+
+// The rows of a thinned octant, and its points.
+pub const OCTANT_ROWS: u32 = 73;
+
+pub const OCTANT_POINTS: u32 = 3447;
 
 // Ni, Nj, and the points n = Ni × Nj.
 pub const SIDE_MOST: u16 = 65534;

@@ -1,5 +1,5 @@
-// The records that every part of the codec shares, and, in specs/, what document 01 means. All records go by value; a
-// refused answer has zero in every other field.
+// The records that every part of the codec shares, and, in specs/, what document 01 means, as R-1 of document 02 amends
+// it. All records go by value; a refused answer has zero in every other field.
 
 pub mod bounds;
 
@@ -36,27 +36,60 @@ pub struct Moment {
     pub minute: u8,
 }
 
-// What points, places and rows ask of a grid: Ni, Nj and the scanning flags.
-pub struct Shape {
+// At which end of a thinned octant its rows begin, in message order; Neither: counts of points that no octant has.
+pub enum Start {
+    Equator,
+    Pole,
+    Neither,
+}
+
+// A rectangle of Ni columns and Nj rows, and the scanning flags.
+pub struct Rectangle {
     pub ni: u16,
     pub nj: u16,
     pub scan: u8,
 }
 
-// Where a latitude/longitude grid lies: what only the reading, judging and writing of a GDS ask of it.
-pub struct Geometry {
-    pub la1: Signed,
-    pub lo1: Signed,
-    pub flags: u8,
+// The rows of a thinned octant, each with its own count of points, and the scanning flags.
+pub struct Thinning {
+    pub start: Start,
+    pub scan: u8,
+}
+
+// What points, places and rows ask of a grid of any kind.
+pub enum Shape {
+    Even(Rectangle),
+    Uneven(Thinning),
+}
+
+// Where a latitude/longitude grid ends, and its steps.
+pub struct Edges {
     pub la2: Signed,
     pub lo2: Signed,
     pub di: u16,
     pub dj: u16,
 }
 
-// A grid.
+// A thinned octant: such edges, and how its rows are counted.
+pub struct Octant {
+    pub edges: Edges,
+    pub start: Start,
+}
+
+// What only its own kind of grid has.
+pub enum Geometry {
+    LatLon(Edges),
+    Thinned(Octant),
+}
+
+// A grid: what every kind has in the same octets of its GDS, and its geometry.
 pub struct Grid {
-    pub shape: Shape,
+    pub ni: u16,
+    pub nj: u16,
+    pub la1: Signed,
+    pub lo1: Signed,
+    pub flags: u8,
+    pub scan: u8,
     pub geometry: Geometry,
 }
 

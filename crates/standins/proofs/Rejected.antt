@@ -12,7 +12,7 @@ use Rattle.rules.specs.declared.{Refusal.Refusal, Places.Places, Form.Form}
 use Rattle.rules.specs.Table.{refusal}
 use Rattle.rules.proofs.Computes.{computes, specimen, nothing}
 use Rattle.rules.proofs.Specimen.{form, parts, source}
-use Rattle.theorems.specs.Returns.{GridFits}
+use Rattle.theorems.specs.Returns.{FoundFits}
 use Rattle.theorems.proofs.Checked.{check-exactly}
 use Rattle.theorems.proofs.Packs.{pack-exactly}
 use Rattle.standins.specs.Codec.{ReadsAll, ValuesAtPoints, CountsPresent, ReadsBack, ChecksExactly, PassesCheck}
@@ -57,9 +57,9 @@ misplaces-sections h =
     eqb-false 8 36 refl
     (ap (λ (p : Places). p .gds .start) (h specimen nothing tt room room (le-refl 4) (le-refl 4) .places))
 
-grid-fits : GridFits (form .grid)
+grid-fits : FoundFits (form .grid)
 grid-fits =
-    (record { ni = lit< tt; nj = lit< tt; scan = lit< tt }, record { flags = lit< tt; di = lit< tt; dj = lit< tt })
+    record { ni = lit< tt; nj = lit< tt; flags = lit< tt; scan = lit< tt; di = lit< tt; dj = lit< tt }
 
 -- the specimen's parts: what stood in the output is no message
 writes-nothing : ReadsBack writesNothing → ⊥

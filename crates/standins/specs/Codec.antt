@@ -18,7 +18,7 @@ use Rattle.rules.specs.Checking.{Source, checkTable}
 use Rattle.rules.specs.Packing.{packTable}
 use Rattle.laws.specs.Taken.{Taken}
 use Rattle.theorems.specs.Reads.{LeftAt, Told}
-use Rattle.theorems.specs.Returns.{Below, GridFits, NumberFits, handed, partsFrom}
+use Rattle.theorems.specs.Returns.{Below, FoundFits, NumberFits, handed, partsFrom}
 use Rattle.theorems.specs.Checks.{Passes, Packable}
 
 -- what is answered, and what becomes of the lent lists: reading a message with a bitmap lent into two lists, writing
@@ -95,7 +95,7 @@ pub record Returns (c : Codec) (w : Parts) (s : List ℕ) : Type 0 where
 
 abbrev pub ReadsBack : Codec → Type 0
 ReadsBack c =
-    (w : Parts) (out : List ℕ) → GridFits (w .form .grid) → NumberFits (w .form .bitmap) → w .scale .r < 2 ^ 32
+    (w : Parts) (out : List ℕ) → FoundFits (w .form .grid) → NumberFits (w .form .bitmap) → w .scale .r < 2 ^ 32
     → T (accepted (c .write w out .refusal))
     → Returns c w (handed (c .write w out) (c .output w out))
 
@@ -117,7 +117,7 @@ ChecksExactly c = (s : List ℕ) (lent : Lent) (f : Source) → (c .check s lent
 -- "Whenever our packer isn't refused, the message it writes passes that check against its own source and stored bitmap"
 abbrev pub PassesCheck : Codec → Type 0
 PassesCheck c =
-    (pds : List ℕ) (form : Form) (lent : Lent) (f : Source) (out : List ℕ) → GridFits (form .grid)
+    (pds : List ℕ) (form : Form) (lent : Lent) (f : Source) (out : List ℕ) → FoundFits (form .grid)
     → NumberFits (form .bitmap)
     → T (accepted (c .pack pds form lent f out .refusal))
     → Passes (handed (c .pack pds form lent f out) (c .packed pds form lent f out)) lent f

@@ -8,7 +8,7 @@ use lib.IntN.{ℤ, pos, negsuc}
 use lib.ListN.{length, getD}
 use Rattle.bits.specs.Tables.{tab}
 use Rattle.rules.specs.declared.{Refusal.Refusal, Signed.Signed, Header.Header, Form.Form, Written.Written}
-use Rattle.rules.specs.declared.{Bitmap.the-variants.Carried}
+use Rattle.rules.specs.declared.{Geometry.the-variants.LatLon, Bitmap.the-variants.Carried}
 use Rattle.rules.specs.Numbers.{plain}
 use Rattle.rules.specs.Table.{refusal, filled}
 use Rattle.rules.specs.Places.{placesOf}
@@ -42,8 +42,13 @@ fixedHeader s lent values marks =
       time = record { year = 1998; month = 3; day = 10; hour = 6; minute = 0 };
       d = plain (pos 1);
       grid = record {
-        shape = record { ni = 2; nj = 2; scan = 64 };
-        geometry = record { la1 = plain (pos 50000); lo1 = plain (negsuc 1999); flags = 128; la2 = plain (pos 51000); lo2 = plain (negsuc 999); di = 1000; dj = 1000 };
+        ni = 2;
+        nj = 2;
+        la1 = plain (pos 50000);
+        lo1 = plain (negsuc 1999);
+        flags = 128;
+        scan = 64;
+        geometry = LatLon (record { la2 = plain (pos 51000); lo2 = plain (negsuc 999); di = 1000; dj = 1000 });
       };
       points = 4;
       bitmap = Carried;

@@ -75,11 +75,11 @@ map-fit n h = (omega arith, (omega arith, (omega arith, tt)))
 stored-fit : (k : ℕ) → k < 2 ^ 16 → Fit (storedFields k)
 stored-fit k h = (omega arith, (omega arith, (h, tt)))
 
-pub bms-most : (b : Bitmap) (f : ℕ → ℕ) (n : ℕ) → n ≤ pointsMost → length (bmsOf b f n) ≤ mapLen pointsMost
+pub bms-most : (b : Bitmap) (f : ℕ → ℕ) (n most : ℕ) → n ≤ most → length (bmsOf b f n) ≤ mapLen most
 unfolding bmsOf
-bms-most Without f n h = omega arith
-bms-most Carried f n h = omega (arith, carried-length f n)
-bms-most (Stored k) f n h = omega (arith, stored-length k f n)
+bms-most Without f n most h = omega arith
+bms-most Carried f n most h = omega (arith, carried-length f n)
+bms-most (Stored k) f n most h = omega (arith, stored-length k f n)
 
 pub bms-sec : (b : Bitmap) (lent : Lent) (f : ℕ → ℕ) (n : ℕ) → n ≤ pointsMost → MapOk b lent f n
     → Sec (bitmapGiven b) bmsLeast (bmsOf b f n)

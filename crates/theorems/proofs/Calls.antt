@@ -45,7 +45,7 @@ module _ (s : List ℕ) (lent : Lent) (values marks : List ℕ) (t : Taken s len
   grid-is =
       ap (λ (h : Header). cond (eqb (h .places .gds .len) 0) Nothing (Given (h .grid)))
       (header s lent values marks t rv rm)
-      ∙ grid-made s (hasGrid s pdsStart) (number s (after (placesOf s .pds)) 1 3) (gridAt s (placesOf s .gds .start))
+      ∙ grid-made s (hasGrid s pdsStart) (number s (after (placesOf s .pds)) 1 3) (gridAt s (placesOf s .gds))
       (reads-inside s lent t .gds)
 
   pds-is : octetsOf s (readOf s lent values marks .places .pds) ≡ octetsOf s (placesOf s .pds)

@@ -8,19 +8,20 @@ use native.Mathlib.Nat.{le-refl}
 use lib.Dec.{T, eqb}
 use lib.ListN.{length}
 use Rattle.bits.proofs.Runs.{bitsIn-bits, run-lt}
-use Rattle.rules.specs.declared.{Places.Places, Found.the-variants.Nothing, Found.the-variants.Given}
+use Rattle.rules.specs.declared.{Part.Part, Places.Places, Found.the-variants.Nothing, Found.the-variants.Given}
 use Rattle.rules.specs.declared.{Bitmap.the-variants.Carried, Bitmap.the-variants.Stored}
 use Rattle.rules.specs.Numbers.{number}
 use Rattle.rules.specs.Table.{accepted}
 use Rattle.rules.specs.Places.{pdsStart, hasGrid, hasBitmap, placesOf}
-use Rattle.rules.specs.Grid.{gridAt}
+use Rattle.rules.specs.Columns.{cellsAt}
+use Rattle.rules.specs.Grid.{Kind, latlon, thinned, columns, kindAt, gridOfCells, gridAt}
 use Rattle.rules.specs.Bitmap.{Lent, bitmapAt}
 use Rattle.rules.specs.Values.{scaleAt}
 use Rattle.rules.specs.Reading.{gridIn, bitmapIn, scaleIn}
-use Rattle.rules.specs.Writing.{Parts, pointsFor, message, writeRefusal, writeOf, outputAfter}
+use Rattle.rules.specs.Writing.{Parts, gridGiven, pointsFor, message, writeRefusal, writeOf, outputAfter}
 use Rattle.rules.specs.RoundTrip.{partsIn, minusZero, bitmapPaddingSet, dataPaddingSet, canonical}
 use Rattle.laws.specs.Taken.{Taken}
-use Rattle.theorems.specs.Returns.{Below, GridFits, NumberFits, WriteAfterReadExactly, WrittenCanonical}
+use Rattle.theorems.specs.Returns.{Below, GridFits, FoundFits, NumberFits, WriteAfterReadExactly, WrittenCanonical}
 use Rattle.laws.proofs.Rows.{true-is}
 use Rattle.theorems.proofs.Replies.{handed-is}
 use Rattle.theorems.proofs.GridSection.{GridClean, found-clean}
@@ -32,7 +33,7 @@ use Rattle.theorems.proofs.ReadBack.{present-count, packing-in}
 use Rattle.theorems.proofs.Reoffered.{reoffered}
 use Rattle.theorems.proofs.WriteBack.{Clean, clean-canonical, comes-back}
 
-module _ (w : Parts) (out : List ℕ) (gf : GridFits (w .form .grid)) (nf : NumberFits (w .form .bitmap))
+module _ (w : Parts) (out : List ℕ) (gf : FoundFits (w .form .grid)) (nf : NumberFits (w .form .bitmap))
     (rf : w .scale .r < 2 ^ 32) (acc : T (accepted (writeRefusal w out))) where
   written-clean : Clean (message w) (w .lent)
   written-clean =
@@ -43,10 +44,10 @@ module _ (w : Parts) (out : List ℕ) (gf : GridFits (w .form .grid)) (nf : Numb
       let d = stands-d w out gf nf rf acc in
       let o = data-fine w out gf nf rf acc in
       let there = sym (grid-there w out gf nf rf acc) in
-      let start = sym (ap (λ (x : Places). x .gds .start) at) in
-      let g : GridClean (hasGrid s pdsStart) s (placesOf s .gds .start) =
-      subst (λ (b : Bool). GridClean b s (placesOf s .gds .start)) there
-      (subst (GridClean _ s) start
+      let section = sym (ap (λ (x : Places). x .gds) at) in
+      let g : GridClean (hasGrid s pdsStart) s (placesOf s .gds) =
+      subst (λ (b : Bool). GridClean b s (placesOf s .gds)) there
+      (subst (GridClean (gridGiven (w .form .grid)) s) section
       (found-clean s _ (w .form .grid) _ (stands-g w out gf nf rf acc) (grid-fine w out gf nf rf acc))) in
       record {
         grid = g;
@@ -67,15 +68,20 @@ written-canonical w out gf nf rf acc =
     subst (λ (s : List ℕ). T (canonical s (w .lent))) (sym (handed-is (writeRefusal w out) (message w) out acc))
     (true-is _ (clean-canonical (message w) (w .lent) (written-clean w out gf nf rf acc)))
 
--- what is read of octets fits the fields
-grid-fits : (b : Bool) (s : List ℕ) (k : ℕ) → Below 256 s → GridFits (cond b (Given (gridAt s k)) Nothing)
+-- what is read of octets fits the fields, of any kind
+read-fits : (k : Kind) (s : List ℕ) (g : ℕ) → Below 256 s → GridFits (gridOfCells k (cellsAt (columns k) s g))
+unfolding gridOfCells cellsAt
+read-fits latlon s g h =
+    let b = bitsIn-bits 8 s in
+    record { ni = run-lt b ((g + 6) * 8) 16; nj = run-lt b ((g + 8) * 8) 16; flags = h (g + 16); scan = h (g + 27); di = run-lt b ((g + 23) * 8) 16; dj = run-lt b ((g + 25) * 8) 16 }
+read-fits thinned s g h =
+    let b = bitsIn-bits 8 s in
+    record { ni = run-lt b ((g + 6) * 8) 16; nj = run-lt b ((g + 8) * 8) 16; flags = h (g + 16); scan = h (g + 27); di = run-lt b ((g + 23) * 8) 16; dj = run-lt b ((g + 25) * 8) 16 }
+
+grid-fits : (b : Bool) (s : List ℕ) (p : Part) → Below 256 s → FoundFits (cond b (Given (gridAt s p)) Nothing)
 unfolding gridAt
-grid-fits false s k h = tt
-grid-fits true s k h =
-    let b = bitsIn-bits 8 s in (
-      record { ni = run-lt b ((k + 6) * 8) 16; nj = run-lt b ((k + 8) * 8) 16; scan = h (k + 27) },
-      record { flags = h (k + 16); di = run-lt b ((k + 23) * 8) 16; dj = run-lt b ((k + 25) * 8) 16 },
-    )
+grid-fits false s p h = tt
+grid-fits true s p h = read-fits (kindAt s p) s (p .start) h
 
 number-fits : (b : Bool) (s : List ℕ) (k : ℕ) → NumberFits (bitmapAt s b k)
 unfolding bitmapAt
@@ -87,9 +93,9 @@ number-fits true s k = go (eqb (number s k 5 6) 0)
     go false = run-lt (bitsIn-bits 8 s) ((k + 4) * 8) 16
 
 module _ (s : List ℕ) (lent : Lent) (below : Below 256 s) (t : Taken s lent) (same : message (partsIn s lent) ≡ s) where
-  grid-in-fits : GridFits (partsIn s lent .form .grid)
+  grid-in-fits : FoundFits (partsIn s lent .form .grid)
   unfolding partsIn gridIn
-  grid-in-fits = grid-fits (hasGrid s pdsStart) s (placesOf s .gds .start) below
+  grid-in-fits = grid-fits (hasGrid s pdsStart) s (placesOf s .gds) below
 
   number-in-fits : NumberFits (partsIn s lent .form .bitmap)
   unfolding partsIn bitmapIn

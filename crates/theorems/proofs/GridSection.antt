@@ -1,164 +1,198 @@
 -- The grid section, there or not: laid it reads back without a stain, and laid from what was read without a stain it is
--- the section read; by its list of fields.
-use Prim.Native.Nat.{ℕ, _+_, _%_, _≤_, _<_}
+-- the section read; by the table of its kind. The kinds enter by computed cases alone.
+use Prim.Native.Nat.{ℕ, zero, suc, _+_, _%_, _^_, _≤_, _<_}
 use mathlib.Core.Bool.{Bool, true, false, not, _&&_, cond}
-use mathlib.Core.Path.{_≡_, refl, sym, ap, _∙_}
-use mathlib.Core.List.{List, [], _++_}
+use mathlib.Core.Path.{_≡_, refl, sym, subst, ap, _∙_}
+use mathlib.Core.List.{List, [], _∷_, _++_, map}
 use native.Mathlib.Omega.{arith}
-use borrow.Author.Tests.{eqb-false}
-use lib.ListN.{length, drop}
+use borrow.Author.Tests.{eqb-true}
+use lib.ListN.{length, getD, drop}
 use lib.Dec.{eqb}
-use Rattle.rules.specs.declared.{Signed.Signed, Part.Part, Grid.Grid, Found.Found, Found.the-variants.Nothing}
-use Rattle.rules.specs.declared.{Found.the-variants.Given}
-use Rattle.rules.specs.Bounds.{gdsLeast, gdsLength, latitudeMost, longitudeMost}
-use Rattle.rules.specs.Numbers.{octet, number, sign, spelled}
-use Rattle.rules.specs.Table.{anyOf}
-use Rattle.rules.specs.Grid.{gridAt, gridFields, gdsOf, gridFrom, lookup, catalogue, theGrid, gdsFaults, gridFaults}
-use Rattle.rules.specs.Writing.{gridGiven, gdsFor}
-use Rattle.rules.specs.RoundTrip.{minusZero}
-use Rattle.theorems.specs.Returns.{ShapeFits, GeometryFits, GridFits}
-use Rattle.laws.proofs.Rows.{none-of, any-none, not-eq, is-eq}
-use Rattle.laws.proofs.Sections.{Cut}
-use Rattle.laws.proofs.Fields.{Fit, Back, all-back, laid-append, stands, here, one, absent-here}
-use Rattle.laws.proofs.Lengths.{gds-laid, gds-length}
-use Rattle.laws.proofs.Whole.{within}
-use Rattle.laws.specs.Signs.{SignFree}
-use Rattle.laws.proofs.Signs.{signed-read, spelled-lt, plus, signed-here}
-use Rattle.theorems.proofs.Laid.{Sec, empty-sec, whole-sec, partIs}
 use Rattle.bits.specs.Bits.{Wide}
+use Rattle.bits.proofs.Tests.{both}
+use Rattle.rules.specs.declared.{Part.Part, Start.Start, Start.the-variants.Equator, Start.the-variants.Pole}
+use Rattle.rules.specs.declared.{Start.the-variants.Neither, Edges.Edges, Octant.Octant, Geometry.Geometry}
+use Rattle.rules.specs.declared.{Geometry.the-variants.LatLon, Geometry.the-variants.Thinned, Grid.Grid, Found.Found}
+use Rattle.rules.specs.declared.{Found.the-variants.Nothing, Found.the-variants.Given}
+use Rattle.rules.specs.Bounds.{gdsLeast, thinnedLength, octantRows}
+use Rattle.rules.specs.Counts.{fromEquator, countsOf}
+use Rattle.rules.specs.Numbers.{Field, laid, octet, number}
+use Rattle.rules.specs.Table.{anyOf, orAll}
+use Rattle.rules.specs.Columns.{Column, Cells, cellsAt, cellsFields, cellsStains}
+use Rattle.rules.specs.Grid.{Kind, latlon, thinned, columns, countColumns, lengthBy, fifth, sixth, kinds, admits, gdsBad}
+use Rattle.rules.specs.Grid.{firstKind, kindAt, countsHeld, countCells, sameCounts, startOf, gridOfCells, kindOf, cellsBy}
+use Rattle.rules.specs.Grid.{cellsOf, gridAt, headFields, gridFields, gdsOf, gridStains, gridFrom, lookup, catalogue}
+use Rattle.rules.specs.Grid.{theGrid, startNumber, edgesOf, gridFaults}
+use Rattle.rules.specs.Writing.{gridGiven, gdsFor}
+use Rattle.theorems.specs.Returns.{GridFits, FoundFits}
+use Rattle.laws.proofs.Rows.{NoneOf, none-of, any-none, clash}
+use Rattle.laws.proofs.Sections.{Cut}
+use Rattle.laws.proofs.Fields.{Fit, Back, Held, widths, all-back, laid-append, stands, here, one, after-fields, absent-here}
+use Rattle.laws.proofs.Columns.{kind-tiles}
+use Rattle.laws.proofs.Counts.{count-most}
+use Rattle.laws.proofs.Grids.{Small, grid-small, octant-few}
+use Rattle.laws.proofs.Lengths.{gds-laid, gds-length}
+use Rattle.theorems.proofs.Laid.{Sec, empty-sec, whole-sec, partIs}
+use Rattle.theorems.proofs.Cells.{CellsFit, fields-fit, read-cells, write-cells}
+use Rattle.theorems.proofs.Octants.{one-of-eight}
 
 -- what of a grid the writer's row 9 and the fields' types leave
 pub record GridOk (g : Grid) : Type 0 where
-  pub shape : ShapeFits (g .shape)
-  pub geometry : GeometryFits (g .geometry)
-  pub la1 : SignFree 3 (g .geometry .la1)
-  pub lo1 : SignFree 3 (g .geometry .lo1)
-  pub la2 : SignFree 3 (g .geometry .la2)
-  pub lo2 : SignFree 3 (g .geometry .lo2)
+  pub fit : CellsFit (columns (kindOf (g .geometry))) (cellsOf g)
 
-grid-ok : (g : Grid) → GridFits (Given g) → anyOf (gridFaults g) ≡ false → GridOk g
-unfolding gridFaults
-grid-ok g f e =
-    let a = g .geometry in
-    let h = none-of (gridFaults g) e .1 .1 .1 in
-    record {
-      shape = f .0;
-      geometry = f .1;
-      la1 = omega (arith, within latitudeMost (a .la1 .value) (h .0));
-      la2 = omega (arith, within latitudeMost (a .la2 .value) (h .1 .0));
-      lo1 = omega (arith, within longitudeMost (a .lo1 .value) (h .1 .1 .0));
-      lo2 = omega (arith, within longitudeMost (a .lo2 .value) (h .1 .1 .1 .0));
-    }
+counts-fit : (k rows : ℕ) (counts : List ℕ) → ((j : ℕ) → getD counts j 0 < 2 ^ 16)
+    → CellsFit (countColumns k rows) (countCells k rows counts)
+counts-fit k zero counts h = tt
+counts-fit k (suc rows) [] h = (omega arith, counts-fit (k + 2) rows [] h)
+counts-fit k (suc rows) (c ∷ counts) h = (h 0, counts-fit (k + 2) rows counts (λ j. h (suc j)))
 
-grid-fit : (g : Grid) → GridOk g → Fit (gridFields g)
+octant-fit : (f : Start) (j : ℕ) → getD (countsOf f) j 0 < 2 ^ 16
+octant-fit f j = omega (arith, count-most (countsOf f) j, octant-few f)
+
+cells-fit : (g : Grid) (x : Geometry) → g .ni < 2 ^ 16 → g .nj < 2 ^ 16 → g .flags < 2 ^ 8 → g .scan < 2 ^ 8
+    → edgesOf x .di < 2 ^ 16 → edgesOf x .dj < 2 ^ 16 → Small g (edgesOf x)
+    → CellsFit (columns (kindOf x)) (cellsBy g x)
+unfolding cellsBy
+cells-fit g (LatLon x) ni nj flags scan di dj s =
+    (ni, (nj, (s .la1, (s .lo1, (flags, (s .la2, (s .lo2, (di, (dj, (scan, (tt, tt)))))))))))
+cells-fit g (Thinned o) ni nj flags scan di dj s =
+    let counts = counts-fit 33 octantRows (countsOf (o .start)) (octant-fit (o .start)) in
+    (ni, (nj, (s .la1, (s .lo1, (flags, (s .la2, (s .lo2, (di, (dj, (scan, (tt, counts)))))))))))
+
+grid-ok : (g : Grid) → GridFits g → anyOf (gridFaults g) ≡ false → GridOk g
+grid-ok g f e = record {
+  fit = cells-fit g (g .geometry) (f .ni) (f .nj) (f .flags) (f .scan) (f .di) (f .dj) (grid-small g e);
+}
+
+-- the record of a record's cells
+start-back : (f : Start) → startOf (countsHeld 33 octantRows (countCells 33 octantRows (countsOf f))) ≡ f
+unfolding startOf countsOf fromEquator sameCounts
+start-back Equator = refl
+start-back Pole = refl
+start-back Neither = refl
+
+abbrev with : Grid → Geometry → Grid
+with g x = record { ni = g .ni; nj = g .nj; la1 = g .la1; lo1 = g .lo1; flags = g .flags; scan = g .scan; geometry = x }
+
+grid-cells : (g : Grid) (x : Geometry) → gridOfCells (kindOf x) (cellsBy g x) ≡ with g x
+unfolding gridOfCells cellsBy
+grid-cells g (LatLon x) = refl
+grid-cells g (Thinned o) =
+    ap (λ (f : Start). with g (Thinned (record { edges = o .edges; start = f }))) (start-back (o .start))
+
+-- a kind's own octets pick it
+abbrev said : ℕ → ℕ → ℕ → ℕ → Kind → Bool
+said l a b c k = eqb l (lengthBy k) && (eqb a 0 && (eqb b (fifth k) && eqb c (sixth k)))
+
+own : (k : Kind) → firstKind kinds (said (lengthBy k) 0 (fifth k) (sixth k)) ≡ k
+own latlon = refl
+own thinned = refl
+
+taken : (k : Kind) → not (anyOf (map (said (lengthBy k) 0 (fifth k) (sixth k)) kinds)) ≡ false
+unfolding anyOf orAll
+taken latlon = refl
+taken thinned = refl
+
+-- octets 1 to 6
+abbrev top : Kind → List Field
+top k = headFields k []
+
+top-fit : (k : Kind) → Fit (top k)
+top-fit latlon = (omega arith, (omega arith, (omega arith, (omega arith, tt))))
+top-fit thinned = (omega arith, (omega arith, (omega arith, (omega arith, tt))))
+
+long-enough : (k : Kind) → (gdsLeast ≤ lengthBy k) × (lengthBy k ≤ thinnedLength) × (eqb (lengthBy k % 2) 1 ≡ false)
+long-enough latlon = (omega arith, omega arith, refl)
+long-enough thinned = (omega arith, omega arith, refl)
+
+fields-all : (g : Grid) → GridOk g → Fit (gridFields g)
 unfolding gridFields
-grid-fit g o =
-    let f = o .shape in
-    let a = o .geometry in
-    let top = sign 3 + sign 3 in
-    let c = g .geometry in
-    let fits : (z : Signed) → SignFree 3 z → spelled 3 z < top = λ z. spelled-lt 3 top z refl in (
-      omega arith,
-      (
-        omega arith,
-        (
-          omega arith,
-          (
-            omega arith,
-            (
-              f .ni,
-              (
-                f .nj,
-                (
-                  fits (c .la1) (o .la1),
-                  (
-                    fits (c .lo1) (o .lo1),
-                    (
-                      a .flags,
-                      (
-                        fits (c .la2) (o .la2),
-                        (fits (c .lo2) (o .lo2), (a .di, (a .dj, (f .scan, (omega arith, tt))))),
-                      ),
-                    ),
-                  ),
-                ),
-              ),
-            ),
-          ),
-        ),
-      ),
-    )
+fields-all g o =
+    let k = kindOf (g .geometry) in
+    let t = top-fit k in
+    let c = fields-fit (columns k) 6 (lengthBy k) (kind-tiles k) (cellsOf g) (o .fit) in
+    (t .0, (t .1 .0, (t .1 .1 .0, (t .1 .1 .1 .0, c))))
 
 gds-sec : (g : Grid) → GridOk g → Sec true gdsLeast (gdsOf g)
 unfolding gridFields
 gds-sec g o =
-    let b = all-back (gdsOf g) 0 0 (gridFields g) [] (gds-laid g) (grid-fit g o) in
-    whole-sec gdsLeast (gdsOf g) (b .0 ∙ sym (gds-length g)) (omega (arith, gds-length g))
-    (ap (λ (x : ℕ). eqb (x % 2) 1) (gds-length g))
-
--- nothing in a grid section keeps it from coming back
-pub record GridClean (b : Bool) (s : List ℕ) (k : ℕ) : Type 0 where
-  pub reserved : (b && not (eqb (number s k 29 32) 0)) ≡ false
-  pub la1 : (b && minusZero s k 11 13) ≡ false
-  pub lo1 : (b && minusZero s k 14 16) ≡ false
-  pub la2 : (b && minusZero s k 18 20) ≡ false
-  pub lo2 : (b && minusZero s k 21 23) ≡ false
+    let k = kindOf (g .geometry) in
+    let b = all-back (gdsOf g) 0 0 (gridFields g) [] (gds-laid g) (fields-all g o) in
+    let l = long-enough k in
+    whole-sec gdsLeast (gdsOf g) (b .0 ∙ sym (gds-length g)) (omega (arith, gds-length g, l .0))
+    (ap (λ (x : ℕ). eqb (x % 2) 1) (gds-length g) ∙ l .2)
 
 -- a grid section where it stands
 module _ (s : List ℕ) (k : ℕ) (g : Grid) (rest : List ℕ) (e : drop k s ≡ gdsOf g ++ rest) (o : GridOk g) where
-  fields : Back s k 0 (gridFields g)
-  fields =
-      all-back s k 0 (gridFields g) rest
-      (stands s k (gridFields g) [] rest (e ∙ ap (λ (x : List ℕ). x ++ rest) (gds-laid g))) (grid-fit g o)
+  abbrev kind : Kind
+  kind = kindOf (g .geometry)
 
-  grid-back : gridAt s k ≡ g
-  unfolding gridAt gridFields
-  grid-back =
-      let b = fields .2 .2 .2 .2 in
-      let c = b .2 .2 .2 .2 in
-      let d = c .2 .2 .2 in
-      let a = g .geometry in
-      λ i. record {
-        shape = record { ni = b .0 i; nj = b .2 .0 i; scan = d .2 .2 .1 refl i };
-        geometry = record {
-          la1 = signed-read 3 _ (a .la1) (b .2 .2 .0) (o .la1) i;
-          lo1 = signed-read 3 _ (a .lo1) (b .2 .2 .2 .0) (o .lo1) i;
-          flags = c .1 refl i;
-          la2 = signed-read 3 _ (a .la2) (c .2 .0) (o .la2) i;
-          lo2 = signed-read 3 _ (a .lo2) (c .2 .2 .0) (o .lo2) i;
-          di = d .0 i;
-          dj = d .2 .0 i;
-        };
-      }
+  abbrev cells : List Field
+  cells = cellsFields (columns kind) (cellsOf g)
 
-  gds-none : anyOf (gdsFaults s (partIs k (gdsOf g))) ≡ false
-  unfolding gdsFaults gridFields
+  abbrev part : Part
+  part = partIs k (gdsOf g)
+
+  stood : drop (k + 0) s ≡ laid (headFields kind cells) rest
+  unfolding gdsOf gridFields
+  stood = stands s k (headFields kind cells) [] rest e
+
+  begun : Back s k 0 (top kind)
+  begun = all-back s k 0 (top kind) (laid cells rest) stood (top-fit kind)
+
+  kind-is : kindAt s part ≡ kind
+  unfolding kindAt
+  kind-is =
+      let b = begun in
+      (λ i. firstKind kinds (said (gds-length g i) (b .2 .1 refl i) (b .2 .2 .1 refl i) (b .2 .2 .2 .1 refl i)))
+      ∙ own kind
+
+  gds-none : gdsBad s part ≡ false
+  unfolding gdsBad
   gds-none =
-      let b = fields in
-      any-none _ (
-        not-eq _ _ (gds-length g),
-        (not-eq _ _ (b .2 .1 refl), (not-eq _ _ (b .2 .2 .1 refl), (not-eq _ _ (b .2 .2 .2 .1 refl), tt))),
-      )
+      let b = begun in
+      (λ i. not (anyOf (map
+      (said (gds-length g i) (b .2 .1 refl i) (b .2 .2 .1 refl i) (b .2 .2 .2 .1 refl i)) kinds)))
+      ∙ taken kind
 
-  grid-clean : GridClean true s k
-  unfolding gridFields
-  grid-clean =
-      let b = fields .2 .2 .2 .2 in
-      let c = b .2 .2 .2 .2 in
-      record {
-        reserved = not-eq _ _ (c .2 .2 .2 .2 .2 .2 .0);
-        la1 = plus 3 _ (g .geometry .la1) (b .2 .2 .0) (o .la1);
-        lo1 = plus 3 _ (g .geometry .lo1) (b .2 .2 .2 .0) (o .lo1);
-        la2 = plus 3 _ (g .geometry .la2) (c .2 .0) (o .la2);
-        lo2 = plus 3 _ (g .geometry .lo2) (c .2 .2 .0) (o .lo2);
-      }
+  cells-are : (cellsAt (columns kind) s k ≡ cellsOf g) × NoneOf (cellsStains (columns kind) s k)
+  cells-are =
+      read-cells (columns kind) 6 (lengthBy kind) (kind-tiles kind) (cellsOf g) (o .fit) s k rest
+      (after-fields s k 0 (top kind) (laid cells rest) stood)
+
+  grid-back : gridAt s part ≡ g
+  unfolding gridAt
+  grid-back =
+      ap (λ (q : Kind). gridOfCells q (cellsAt (columns q) s k)) kind-is ∙ ap (gridOfCells kind) (cells-are .0)
+      ∙ grid-cells g (g .geometry)
+
+  grid-clean : NoneOf (gridStains s part)
+  unfolding gridStains
+  grid-clean = subst (λ (q : Kind). NoneOf (cellsStains (columns q) s k)) (sym kind-is) (cells-are .1)
+
+-- nothing in a grid section keeps it from coming back, where there is one
+abbrev pub GridClean : Bool → List ℕ → Part → Type 0
+GridClean b s p = NoneOf (map (λ (t : Bool). b && t) (gridStains s p))
+
+clean-there : (tests : List Bool) → NoneOf tests → NoneOf (map (λ (t : Bool). true && t) tests)
+clean-there [] h = tt
+clean-there (t ∷ tests) h = (h .0, clean-there tests (h .1))
+
+there-clean : (tests : List Bool) → NoneOf (map (λ (t : Bool). true && t) tests) → NoneOf tests
+there-clean [] h = tt
+there-clean (t ∷ tests) h = (h .0, there-clean tests (h .1))
+
+clean-away : (tests : List Bool) → NoneOf (map (λ (t : Bool). false && t) tests)
+clean-away [] = tt
+clean-away (t ∷ tests) = (refl, clean-away tests)
 
 -- a grid, or none
 abbrev pub FoundOk : Found → Type 0
 FoundOk Nothing = Unit {0}
 FoundOk (Given g) = GridOk g
 
-pub found-ok : (f : Found) (p : List ℕ) → GridFits f → anyOf (gridFaults (theGrid (gridFrom f p 0))) ≡ false → FoundOk f
+pub found-ok : (f : Found) (p : List ℕ) → FoundFits f → anyOf (gridFaults (theGrid (gridFrom f p 0))) ≡ false
+    → FoundOk f
 unfolding gridFrom
 found-ok Nothing p h e = tt
 found-ok (Given g) p h e = grid-ok g h e
@@ -167,24 +201,24 @@ pub found-sec : (f : Found) → FoundOk f → Sec (gridGiven f) gdsLeast (gdsFor
 found-sec Nothing o = empty-sec gdsLeast
 found-sec (Given g) o = gds-sec g o
 
-pub found-most : (f : Found) → length (gdsFor f) ≤ gdsLength
+pub found-most : (f : Found) → length (gdsFor f) ≤ thinnedLength
 found-most Nothing = omega arith
-found-most (Given g) = omega (arith, gds-length g)
+found-most (Given g) = omega (arith, gds-length g, long-enough (kindOf (g .geometry)) .1)
 
 pub found-back : (s : List ℕ) (k : ℕ) (f : Found) (rest : List ℕ) → drop k s ≡ gdsFor f ++ rest → FoundOk f
-    → cond (gridGiven f) (Given (gridAt s k)) Nothing ≡ f
+    → cond (gridGiven f) (Given (gridAt s (partIs k (gdsFor f)))) Nothing ≡ f
 found-back s k Nothing rest e o = refl
 found-back s k (Given g) rest e o = ap Given (grid-back s k g rest e o)
 
 pub found-none : (s : List ℕ) (k : ℕ) (f : Found) (rest : List ℕ) → drop k s ≡ gdsFor f ++ rest → FoundOk f
-    → (gridGiven f && anyOf (gdsFaults s (partIs k (gdsFor f)))) ≡ false
+    → (gridGiven f && gdsBad s (partIs k (gdsFor f))) ≡ false
 found-none s k Nothing rest e o = refl
 found-none s k (Given g) rest e o = gds-none s k g rest e o
 
 pub found-clean : (s : List ℕ) (k : ℕ) (f : Found) (rest : List ℕ) → drop k s ≡ gdsFor f ++ rest → FoundOk f
-    → GridClean (gridGiven f) s k
-found-clean s k Nothing rest e o = record { reserved = refl; la1 = refl; lo1 = refl; la2 = refl; lo2 = refl }
-found-clean s k (Given g) rest e o = grid-clean s k g rest e o
+    → GridClean (gridGiven f) s (partIs k (gdsFor f))
+found-clean s k Nothing rest e o = clean-away (gridStains s (partIs k []))
+found-clean s k (Given g) rest e o = clean-there (gridStains s (partIs k (gdsOf g))) (grid-clean s k g rest e o)
 
 -- the same octet 7 picks the same grid
 pub from-same : (f : Found) (s : List ℕ) (k : ℕ) (p : List ℕ) → octet s k 7 ≡ octet p 0 7
@@ -193,56 +227,118 @@ unfolding gridFrom
 from-same (Given g) s k p e = refl
 from-same Nothing s k p e = ap (lookup catalogue) e
 
--- and laid again from what was read
-pub found-here : (b : Bool) (s : List ℕ) (p : Part) → Wide 8 s → p .start + p .len ≤ length s → Cut b gdsLeast s p
-    → (b && anyOf (gdsFaults s p)) ≡ false → GridClean b s (p .start)
-    → gdsFor (cond b (Given (gridAt s (p .start))) Nothing) ++ drop (p .start + p .len) s ≡ drop (p .start) s
-unfolding gdsFaults gridFields gridAt
-found-here false s p w l e h c = absent-here s (p .start) (p .len) (e .says)
-found-here true s p w l e h c =
+-- the octants' counts, known again
+same-counts : (xs ys : List ℕ) → sameCounts xs ys ≡ true → xs ≡ ys
+unfolding sameCounts
+same-counts [] [] e = refl
+same-counts [] (y ∷ ys) e = clash false e refl
+same-counts (x ∷ xs) [] e = clash false e refl
+same-counts (x ∷ xs) (y ∷ ys) e =
+    let b = both (eqb x y) (sameCounts xs ys) e in
+    let h = eqb-true x y (b .0) in
+    let t = same-counts xs ys (b .1) in
+    λ i. h i ∷ t i
+
+known : (xs : List ℕ) → (startOf xs ≡ Neither → ⊥) → countsOf (startOf xs) ≡ xs
+unfolding startOf
+known xs = go (sameCounts xs (countsOf Equator)) refl (sameCounts xs (countsOf Pole)) refl
+  where
+    go : (a : Bool) → sameCounts xs (countsOf Equator) ≡ a → (b : Bool) → sameCounts xs (countsOf Pole) ≡ b
+        → (cond a Equator (cond b Pole Neither) ≡ Neither → ⊥)
+        → countsOf (cond a Equator (cond b Pole Neither)) ≡ xs
+    go true d b e n = sym (same-counts xs (countsOf Equator) d)
+    go false d true e n = sym (same-counts xs (countsOf Pole) e)
+    go false d false e n = absurd (n refl)
+
+cells-counts : (k rows : ℕ) (x : Cells (countColumns k rows)) → countCells k rows (countsHeld k rows x) ≡ x
+cells-counts k zero x = refl
+cells-counts k (suc rows) x =
+    let e = cells-counts (k + 2) rows (x .1) in
+    λ i. (x .0, e i)
+
+-- the cells of the record of cells
+abbrev tallies : Cells (columns thinned) → Cells (countColumns 33 octantRows)
+tallies x = x .1 .1 .1 .1 .1 .1 .1 .1 .1 .1 .1
+
+abbrev refill : Cells (columns thinned) → Cells (countColumns 33 octantRows) → Cells (columns thinned)
+refill x counts =
+    let y = x .1 .1 .1 .1 .1 in
+    (x .0, (x .1 .0, (x .1 .1 .0, (x .1 .1 .1 .0, (x .1 .1 .1 .1 .0, (y .0, (y .1 .0, (y .1 .1 .0, (y .1 .1 .1 .0, (y .1 .1 .1 .1 .0, (tt, counts)))))))))))
+
+not-neither : (x : Cells (columns thinned)) → anyOf (gridFaults (gridOfCells thinned x)) ≡ false
+    → startOf (countsHeld 33 octantRows (tallies x)) ≡ Neither → ⊥
+unfolding gridOfCells
+not-neither x h e =
+    let o = one-of-eight (gridOfCells thinned x) _ refl h in
+    let n : startNumber (startOf (countsHeld 33 octantRows (tallies x))) ≡ 3 = ap startNumber e in
+    omega (arith, n, o .rows)
+
+fields-of : (k : Kind) (x : Cells (columns k)) → anyOf (gridFaults (gridOfCells k x)) ≡ false
+    → gridFields (gridOfCells k x) ≡ headFields k (cellsFields (columns k) x)
+unfolding gridFields gridOfCells cellsBy
+fields-of latlon x h = refl
+fields-of thinned x h =
+    let e = ap (countCells 33 octantRows) (known (countsHeld 33 octantRows (tallies x)) (not-neither x h)) ∙ cells-counts 33 octantRows (tallies x) in
+    ap (λ (q : Cells (countColumns 33 octantRows)). headFields thinned (cellsFields (columns thinned) (refill x q))) e
+
+-- the kind that is picked is admitted, where one is
+first-none : (ks : List Kind) (f : Kind → Bool) → f (firstKind ks f) ≡ false → NoneOf (map f ks)
+first-none [] f e = tt
+first-none (k ∷ ks) f e = go (f k) refl (first-none ks f)
+  where
+    go : (t : Bool) → f k ≡ t → (f (firstKind ks f) ≡ false → NoneOf (map f ks)) → (f k ≡ false) × NoneOf (map f ks)
+    go true d q = clash (f k) d (sym (ap (λ (t : Bool). f (cond t k (firstKind ks f))) d) ∙ e)
+    go false d q = (d, q (sym (ap (λ (t : Bool). f (cond t k (firstKind ks f))) d) ∙ e))
+
+pub picked : (ks : List Kind) (f : Kind → Bool) → not (anyOf (map f ks)) ≡ false → f (firstKind ks f) ≡ true
+picked ks f h = go (f (firstKind ks f)) refl
+  where
+    go : (t : Bool) → f (firstKind ks f) ≡ t → t ≡ true
+    go true d = refl
+    go false d = clash (not (anyOf (map f ks))) (ap not (any-none (map f ks) (first-none ks f d))) h
+
+-- what row 8 leaves of a section: it is its kind's
+pub record Admitted (s : List ℕ) (p : Part) : Type 0 where
+  pub len : p .len ≡ lengthBy (kindAt s p)
+  pub four : octet s (p .start) 4 ≡ 0
+  pub five : octet s (p .start) 5 ≡ fifth (kindAt s p)
+  pub six : octet s (p .start) 6 ≡ sixth (kindAt s p)
+
+pub admitted : (s : List ℕ) (p : Part) → gdsBad s p ≡ false → Admitted s p
+unfolding kindAt gdsBad
+admitted s p h =
+    let a = both _ _ (picked kinds (admits s p) h) in
+    let b = both _ _ (a .1) in
+    let c = both _ _ (b .1) in
+    record { len = eqb-true _ _ (a .0); four = eqb-true _ _ (b .0); five = eqb-true _ _ (c .0); six = eqb-true _ _ (c .1) }
+
+-- a section laid again from what was read
+written : (s : List ℕ) (p : Part) → Wide 8 s → p .start + p .len ≤ length s → Cut true gdsLeast s p
+    → gdsBad s p ≡ false → anyOf (gridFaults (gridAt s p)) ≡ false → NoneOf (gridStains s p)
+    → gdsOf (gridAt s p) ++ drop (p .start + p .len) s ≡ drop (p .start) s
+unfolding gdsOf gridAt gridStains
+written s p w l e h g z =
+    let it = kindAt s p in
     let k = p .start in
-    let g = gridAt s k in
-    let f = none-of (gdsFaults s p) h in
-    let z : p .len ≡ gdsLength = is-eq (p .len) gdsLength (f .0) in
-    ap (λ (x : ℕ). gdsOf g ++ drop (k + x) s) z
-    ∙ ap (λ (x : List ℕ). x ++ drop (k + gdsLength) s) (gds-laid g)
-    ∙ laid-append (gridFields g) [] (drop (k + gdsLength) s)
-    ∙ here s k (gridFields g) (drop (k + gdsLength) s) w (omega (arith, l, z)) (
+    let x = cellsAt (columns it) s k in
+    let a = admitted s p h in
+    let n = a .len in
+    let m : k + lengthBy it ≤ length s = subst (λ (y : ℕ). k + y ≤ length s) n l in
+    let low : laid (cellsFields (columns it) x) (drop (k + lengthBy it) s) ≡ drop (k + 6) s = write-cells (columns it) 6 (lengthBy it) (kind-tiles it) s k w m z in
+    ap (λ (y : ℕ). laid (gridFields (gridAt s p)) [] ++ drop (k + y) s) n
+    ∙ laid-append (gridFields (gridAt s p)) [] (drop (k + lengthBy it) s)
+    ∙ ap (λ (fs : List Field). laid fs (drop (k + lengthBy it) s)) (fields-of it x g)
+    ∙ ap (laid (top it)) low
+    ∙ here s k (top it) (drop (k + 6) s) w (omega (arith, m, long-enough it .0)) (
       sym (e .says)
-          ∙ z,
-      (
-        one s w (k + 3)
-            ∙ is-eq _ _ (f .1 .0),
-        (
-          one s w (k + 4)
-              ∙ is-eq _ _ (f .1 .1 .0),
-          (
-            one s w (k + 5)
-                ∙ is-eq _ _ (f .1 .1 .1 .0),
-            (
-              refl,
-              (
-                refl,
-                (
-                  signed-here 3 _ (eqb-false _ _ (c .la1)),
-                  (
-                    signed-here 3 _ (eqb-false _ _ (c .lo1)),
-                    (
-                      one s w (k + 16),
-                      (
-                        signed-here 3 _ (eqb-false _ _ (c .la2)),
-                        (
-                          signed-here 3 _ (eqb-false _ _ (c .lo2)),
-                          (refl, (refl, (one s w (k + 27), (is-eq _ _ (c .reserved), tt)))),
-                        ),
-                      ),
-                    ),
-                  ),
-                ),
-              ),
-            ),
-          ),
-        ),
-      ),
+          ∙ n,
+      (one s w (k + 3) ∙ a .four, (one s w (k + 4) ∙ a .five, (one s w (k + 5) ∙ a .six, tt))),
     )
     refl
+
+-- or none
+pub found-here : (b : Bool) (s : List ℕ) (p : Part) → Wide 8 s → p .start + p .len ≤ length s → Cut b gdsLeast s p
+    → (b && gdsBad s p) ≡ false → (b ≡ true → anyOf (gridFaults (gridAt s p)) ≡ false) → GridClean b s p
+    → gdsFor (cond b (Given (gridAt s p)) Nothing) ++ drop (p .start + p .len) s ≡ drop (p .start) s
+found-here false s p w l e h g c = absent-here s (p .start) (p .len) (e .says)
+found-here true s p w l e h g c = written s p w l e h (g refl) (there-clean (gridStains s p) c)

@@ -1,12 +1,13 @@
 -- What is read of a message does not depend on its padding bits nor on its reserved octets: every field lies outside of
 -- them, section by section.
 use Prim.Native.Nat.{ℕ, _+_, _-_, _*_, _/_, _%_, _≤_, _<_}
-use mathlib.Core.Bool.{Bool, true, false, not, _&&_, cond}
+use mathlib.Core.Bool.{Bool, true, false, not, _&&_, _||_, cond}
 use mathlib.Core.Path.{_≡_, refl, sym, subst, _∙_, ap}
 use mathlib.Core.Logic.{_⊎_, inl, inr, ⊎-elim}
-use mathlib.Core.List.{List, [], _∷_}
+use mathlib.Core.List.{List, [], _∷_, map}
 use native.Mathlib.Omega.{arith}
-use lib.Dec.{ltb, eqb}
+use borrow.Author.Tests.{eqb-true, leb-true}
+use lib.Dec.{ltb, leb, eqb}
 use lib.ListN.{length, getD, take, drop}
 use lib.Seq.{getD-drop}
 use Rattle.bits.specs.Bits.{bitsIn, run, count, octetsFor}
@@ -16,16 +17,19 @@ use Rattle.bits.proofs.Fill.{tab-ext}
 use Rattle.bits.proofs.Trip.{runs-ext}
 use Rattle.bits.proofs.Cut.{bits-drop, bits-take, octets-here}
 use Rattle.bits.proofs.Marks.{count-same}
-use Rattle.rules.specs.declared.{Places.Places, Packing.Packing, Found.Found, Found.the-variants.Nothing}
+use Rattle.rules.specs.declared.{Part.Part, Places.Places, Packing.Packing, Found.Found, Found.the-variants.Nothing}
 use Rattle.rules.specs.declared.{Found.the-variants.Given, Bitmap.Bitmap, Bitmap.the-variants.Without}
 use Rattle.rules.specs.declared.{Bitmap.the-variants.Carried, Bitmap.the-variants.Stored}
-use Rattle.rules.specs.Bounds.{messageLeast, messageMost, gdsLength}
+use Rattle.rules.specs.Bounds.{messageLeast, messageMost}
 use Rattle.rules.specs.Numbers.{octet, bit, number, signed, notWithin}
 use Rattle.rules.specs.Table.{anyOf}
 use Rattle.rules.specs.Places.{octetsOf, grib, sevens, pdsStart, endStart, hasGrid, hasBitmap, sectionAt, placesOf}
 use Rattle.rules.specs.Places.{sizeBad, gribBad, editionBad, totalFaults, placesFaults}
 use Rattle.rules.specs.Time.{momentFaults, timeFaults}
-use Rattle.rules.specs.Grid.{gridAt, gridFrom, gridMissing, theGrid, gdsFaults, gridFaults, pointsOf}
+use Rattle.rules.specs.Columns.{Sort, carried, side, latitude, longitude, reserved as kept, Column, columnAt, cellOf}
+use Rattle.rules.specs.Columns.{cellsAt}
+use Rattle.rules.specs.Grid.{Kind, latlon, thinned, columns, lengthBy, fifth, sixth, kinds, gdsBad, firstKind, kindAt}
+use Rattle.rules.specs.Grid.{gridOfCells, gridAt, gridFrom, gridMissing, theGrid, gridFaults, pointsOf}
 use Rattle.rules.specs.Bitmap.{Lent, bitmapAt, lentFaults, bitmapFaults, bitmapGiven, inForce, bitmapOctets, presentBy}
 use Rattle.rules.specs.Points.{valueAt, scattered}
 use Rattle.rules.specs.Values.{packingAt, scaleAt, packingFaults, lengthBad, valuesAt}
@@ -34,12 +38,83 @@ use Rattle.rules.specs.Reading.{scaleIn, dataIn, valuesIn, marksIn}
 use Rattle.rules.specs.RoundTrip.{partsIn}
 use Rattle.laws.specs.Taken.{Taken}
 use Rattle.theorems.specs.Returns.{Below, Ignored, reserved, bitmap, padding, PaddingIgnored}
-use Rattle.laws.proofs.Rows.{taken-by, none-of, is-true, is-eq}
+use Rattle.bits.proofs.Tests.{both}
+use Rattle.laws.proofs.Rows.{taken-by, none-of, is-true, is-eq, and-false}
 use Rattle.laws.proofs.Judged.{Judged, judged, unjudged}
 use Rattle.laws.proofs.Sections.{Sections, sections}
 use Rattle.laws.proofs.Fields.{one}
-use Rattle.theorems.proofs.GridSection.{from-same}
+use Rattle.theorems.proofs.GridSection.{from-same, admitted}
 use Rattle.laws.proofs.Bounded.{kind}
+
+-- a column whose octets are read: it lies before the reserved octets or after them, or it is they
+abbrev openSort : Sort → Bool
+openSort carried = false
+openSort side = false
+openSort latitude = false
+openSort longitude = false
+openSort kept = true
+
+abbrev openColumn : ℕ → Column → Bool
+openColumn len c =
+    openSort (c .sort)
+    || (leb (c .first - 1 + c .width) 28 || (leb 32 (c .first - 1) && leb (c .first - 1 + c .width) len))
+
+abbrev openColumns : ℕ → List Column → Bool
+openColumns len [] = true
+openColumns len (c ∷ cs) = openColumn len c && openColumns len cs
+
+kind-open : (k : Kind) → openColumns (lengthBy k) (columns k) ≡ true
+kind-open latlon = refl
+kind-open thinned = refl
+
+-- the cell of such a column is the same where the bits are
+module _ (o s : List ℕ) (g len : ℕ) (ws : Below 256 s) (wo : Below 256 o)
+    (front : (k w : ℕ) → k + w ≤ 28 → run (bitsIn 8 o) ((g + k) * 8) (w * 8) ≡ run (bitsIn 8 s) ((g + k) * 8) (w * 8))
+    (back : (k w : ℕ) → 32 ≤ k → k + w ≤ len
+    → run (bitsIn 8 o) ((g + k) * 8) (w * 8) ≡ run (bitsIn 8 s) ((g + k) * 8) (w * 8)) where
+  column-by : (c : Column)
+      → run (bitsIn 8 o) ((g + (c .first - 1)) * 8) (c .width * 8)
+      ≡ run (bitsIn 8 s) ((g + (c .first - 1)) * 8) (c .width * 8)
+      → columnAt c o g ≡ columnAt c s g
+  column-by c e = go (eqb (c .width) 1) refl
+    where
+      go : (t : Bool) → eqb (c .width) 1 ≡ t
+          → cond t (octet o g (c .first)) (run (bitsIn 8 o) ((g + (c .first - 1)) * 8) (c .width * 8))
+          ≡ cond t (octet s g (c .first)) (run (bitsIn 8 s) ((g + (c .first - 1)) * 8) (c .width * 8))
+      go true d =
+          let n = eqb-true (c .width) 1 d in
+          let at = g + (c .first - 1) in
+          sym (one o wo at)
+          ∙ (λ i. run (bitsIn 8 o) (at * 8) (sym n i * 8)) ∙ e ∙ (λ i. run (bitsIn 8 s) (at * 8) (n i * 8))
+          ∙ one s ws at
+      go false d = e
+
+  runs-by : (c : Column)
+      → (leb (c .first - 1 + c .width) 28 || (leb 32 (c .first - 1) && leb (c .first - 1 + c .width) len)) ≡ true
+      → columnAt c o g ≡ columnAt c s g
+  runs-by c h = column-by c (go (leb (c .first - 1 + c .width) 28) refl h)
+    where
+      go : (t : Bool) → leb (c .first - 1 + c .width) 28 ≡ t
+          → (t || (leb 32 (c .first - 1) && leb (c .first - 1 + c .width) len)) ≡ true
+          → run (bitsIn 8 o) ((g + (c .first - 1)) * 8) (c .width * 8)
+          ≡ run (bitsIn 8 s) ((g + (c .first - 1)) * 8) (c .width * 8)
+      go true d k = front (c .first - 1) (c .width) (leb-true _ _ d)
+      go false d k =
+          let b = both (leb 32 (c .first - 1)) (leb (c .first - 1 + c .width) len) k in
+          back (c .first - 1) (c .width) (leb-true _ _ (b .0)) (leb-true _ _ (b .1))
+
+  open-same : (c : Column) → openColumn len c ≡ true
+      → cellOf (c .sort) (c .width) (columnAt c o g) ≡ cellOf (c .sort) (c .width) (columnAt c s g)
+  open-same c h = go (c .sort) refl h
+    where
+      go : (t : Sort) → c .sort ≡ t
+          → (openSort t || (leb (c .first - 1 + c .width) 28 || (leb 32 (c .first - 1) && leb (c .first - 1 + c .width) len))) ≡ true
+          → cellOf t (c .width) (columnAt c o g) ≡ cellOf t (c .width) (columnAt c s g)
+      go carried e k = ap (cellOf carried (c .width)) (runs-by c k)
+      go side e k = ap (cellOf side (c .width)) (runs-by c k)
+      go latitude e k = ap (cellOf latitude (c .width)) (runs-by c k)
+      go longitude e k = ap (cellOf longitude (c .width)) (runs-by c k)
+      go kept e k = refl
 
 module _ (s o : List ℕ) (lent : Lent) (ws : Below 256 s) (wo : Below 256 o) (len : length o ≡ length s)
     (same : (i : ℕ) → (Ignored s lent i → ⊥) → bitsIn 8 o i ≡ bitsIn 8 s i) (t : Taken s lent) where
@@ -87,10 +162,11 @@ module _ (s o : List ℕ) (lent : Lent) (ws : Below 256 s) (wo : Below 256 o) (l
       omega (arith, at .bds .least refl, is-eq (8 * (placesOf s .bds .len - 11)) (used + octet s D 4 % 16) (j .length))
 
   -- a place that is before or after each of the three is none of them
-  clear-of : (i : ℕ) → (i < (G + 28) * 8) ⊎ (M * 8 ≤ i) → (i < (M + 6) * 8 + n) ⊎ (D * 8 ≤ i)
+  clear-of : (i : ℕ) → (i < (G + 28) * 8) ⊎ (hasGrid s pdsStart ≡ true → (G + 32) * 8 ≤ i)
+      → (i < (M + 6) * 8 + n) ⊎ (D * 8 ≤ i)
       → (i < (D + 11) * 8 + used) ⊎ (end * 8 ≤ i) → Ignored s lent i → ⊥
   clear-of i a b c (reserved g h) =
-      ⊎-elim (λ l. omega (arith, h .0, l)) (λ l. omega (arith, h .1, l, grid-end (is-true _ g))) a
+      ⊎-elim (λ l. omega (arith, h .0, l)) (λ l. omega (arith, h .1, l (is-true _ g))) a
   clear-of i a b c (bitmap e h) = ⊎-elim (λ l. omega (arith, h .0, l)) (λ l. omega (arith, h .1, l, map-end e)) b
   clear-of i a b c (padding h) = ⊎-elim (λ l. omega (arith, h .0, l)) (λ l. omega (arith, h .1, l, data-end)) c
 
@@ -110,15 +186,23 @@ module _ (s o : List ℕ) (lent : Lent) (ws : Below 256 s) (wo : Below 256 o) (l
       (clear-of (a + i) (inl (omega arith)) (inl (omega (arith, grid-end h)))
       (inl (omega (arith, grid-end h, at .at-bds)))))
 
+  -- and after them
+  count-bits : hasGrid s pdsStart ≡ true → (a k : ℕ) → (G + 32) * 8 ≤ a → a + k ≤ M * 8
+      → run (bitsIn 8 o) a k ≡ run (bitsIn 8 s) a k
+  count-bits h a k m l =
+      run-ext (bitsIn 8 o) (bitsIn 8 s) a a k
+      (λ i q. same (a + i)
+      (clear-of (a + i) (inr (λ g. omega arith)) (inl (omega arith)) (inl (omega (arith, at .at-bds)))))
+
   map-bits : hasBitmap s pdsStart ≡ true → (a k : ℕ) → M * 8 ≤ a → a + k ≤ (M + 6) * 8
       → run (bitsIn 8 o) a k ≡ run (bitsIn 8 s) a k
   map-bits h a k m l =
       run-ext (bitsIn 8 o) (bitsIn 8 s) a a k
       (λ i q. same (a + i)
-      (clear-of (a + i) (inr (omega arith)) (inl (omega arith)) (inl (omega (arith, map-head h)))))
+      (clear-of (a + i) (inr (λ g. omega (arith, grid-end g))) (inl (omega arith)) (inl (omega (arith, map-head h)))))
 
   data-bit : (i : ℕ) → D * 8 ≤ i → i < (D + 11) * 8 + used → bitsIn 8 o i ≡ bitsIn 8 s i
-  data-bit i m l = same i (clear-of i (inr (omega (arith, at .at-bds))) (inr m) (inl l))
+  data-bit i m l = same i (clear-of i (inr (λ g. omega (arith, grid-end g, at .at-bds))) (inr m) (inl l))
 
   data-bits : (a k : ℕ) → D * 8 ≤ a → a + k ≤ (D + 11) * 8 + used → run (bitsIn 8 o) a k ≡ run (bitsIn 8 s) a k
   data-bits a k m l = run-ext (bitsIn 8 o) (bitsIn 8 s) a a k (λ i q. data-bit (a + i) (omega arith) (omega arith))
@@ -127,7 +211,7 @@ module _ (s o : List ℕ) (lent : Lent) (ws : Below 256 s) (wo : Below 256 o) (l
   end-bits a k m =
       run-ext (bitsIn 8 o) (bitsIn 8 s) a a k
       (λ i q. same (a + i)
-      (clear-of (a + i) (inr (omega (arith, at .at-bds))) (inr (omega arith)) (inr (omega arith))))
+      (clear-of (a + i) (inr (λ g. omega (arith, grid-end g, at .at-bds))) (inr (omega arith)) (inr (omega arith))))
 
   -- an octet is the number in its bits
   by-bits : (k : ℕ) → run (bitsIn 8 o) (k * 8) 8 ≡ run (bitsIn 8 s) (k * 8) 8 → getD o k 0 ≡ getD s k 0
@@ -198,31 +282,49 @@ module _ (s o : List ℕ) (lent : Lent) (ws : Below 256 s) (wo : Below 256 o) (l
   grid-octet : hasGrid s pdsStart ≡ true → (k : ℕ) → k < 28 → getD o (G + k) 0 ≡ getD s (G + k) 0
   grid-octet h k l = by-bits (G + k) (grid-bits h ((G + k) * 8) 8 (omega arith))
 
-  grid-same : hasGrid s pdsStart ≡ true → gridAt o G ≡ gridAt s G
+  abbrev P : Part
+  P = placesOf s .gds
+
+  -- a column of the grid's table, unless it is reserved
+  column-same : hasGrid s pdsStart ≡ true → (c : Column) → openColumn (P .len) c ≡ true
+      → cellOf (c .sort) (c .width) (columnAt c o G) ≡ cellOf (c .sort) (c .width) (columnAt c s G)
+  column-same h c f =
+      open-same o s G (P .len) ws wo (λ k w l. grid-bits h ((G + k) * 8) (w * 8) (omega arith))
+      (λ k w m l. count-bits h ((G + k) * 8) (w * 8) (omega arith) (omega (arith, at .at-bms))) c f
+
+  cells-same : hasGrid s pdsStart ≡ true → (cs : List Column) → openColumns (P .len) cs ≡ true
+      → cellsAt cs o G ≡ cellsAt cs s G
+  unfolding cellsAt
+  cells-same h [] f = refl
+  cells-same h (c ∷ cs) f =
+      let b = both (openColumn (P .len) c) (openColumns (P .len) cs) f in
+      let x = column-same h c (b .0) in
+      let y = cells-same h cs (b .1) in
+      λ i. (x i, y i)
+
+  kind-same : hasGrid s pdsStart ≡ true → kindAt o P ≡ kindAt s P
+  unfolding kindAt
+  kind-same h = λ i.
+      firstKind kinds (λ k. eqb (P .len) (lengthBy k) && (eqb (grid-octet h 3 (omega arith) i) 0
+      && (eqb (grid-octet h 4 (omega arith) i) (fifth k) && eqb (grid-octet h 5 (omega arith) i) (sixth k))))
+
+  grid-same : hasGrid s pdsStart ≡ true → gridAt o P ≡ gridAt s P
   unfolding gridAt
   grid-same h =
-      let at : (k c : ℕ) → k + c ≤ 28 → run (bitsIn 8 o) ((G + k) * 8) (c * 8) ≡ run (bitsIn 8 s) ((G + k) * 8) (c * 8) = λ k c l. grid-bits h ((G + k) * 8) (c * 8) (omega arith) in
-      λ i. record {
-        shape = record { ni = at 6 2 (omega arith) i; nj = at 8 2 (omega arith) i; scan = grid-octet h 27 (omega arith) i };
-        geometry = record {
-          la1 = signed 3 (at 10 3 (omega arith) i);
-          lo1 = signed 3 (at 13 3 (omega arith) i);
-          flags = grid-octet h 16 (omega arith) i;
-          la2 = signed 3 (at 17 3 (omega arith) i);
-          lo2 = signed 3 (at 20 3 (omega arith) i);
-          di = at 23 2 (omega arith) i;
-          dj = at 25 2 (omega arith) i;
-        };
-      }
+      let a = admitted s P (and-false _ _ h (j .gds)) in
+      ap (λ (k : Kind). gridOfCells k (cellsAt (columns k) o G)) (kind-same h)
+      ∙ ap (gridOfCells (kindAt s P))
+      (cells-same h (columns (kindAt s P))
+      (subst (λ (n : ℕ). openColumns n (columns (kindAt s P)) ≡ true) (sym (a .len)) (kind-open (kindAt s P))))
 
   grid-in : gridIn o ≡ gridIn s
   unfolding gridIn
   grid-in =
-      (λ i. cond (grid-there i) (Given (gridAt o (places-same i .gds .start))) Nothing)
+      (λ i. cond (grid-there i) (Given (gridAt o (places-same i .gds))) Nothing)
       ∙ found (hasGrid s pdsStart) grid-same
     where
-      found : (b : Bool) → (b ≡ true → gridAt o G ≡ gridAt s G)
-          → cond b (Given (gridAt o G)) Nothing ≡ cond b (Given (gridAt s G)) Nothing
+      found : (b : Bool) → (b ≡ true → gridAt o P ≡ gridAt s P)
+          → cond b (Given (gridAt o P)) Nothing ≡ cond b (Given (gridAt s P)) Nothing
       found true h = ap Given (h refl)
       found false h = refl
 
@@ -267,7 +369,7 @@ module _ (s o : List ℕ) (lent : Lent) (ws : Below 256 s) (wo : Below 256 o) (l
   present-as Carried e i l =
       bits-take (octetsFor n) (drop (M + 6) o) i (omega arith) ∙ sym (bits-drop (M + 6) o i)
       ∙ same ((M + 6) * 8 + i)
-      (clear-of ((M + 6) * 8 + i) (inr (omega arith)) (inl (omega arith)) (inl (omega (arith, map-end e))))
+      (clear-of ((M + 6) * 8 + i) (inr (λ g. omega (arith, grid-end g))) (inl (omega arith)) (inl (omega (arith, map-end e))))
       ∙ bits-drop (M + 6) s i ∙ sym (bits-take (octetsFor n) (drop (M + 6) s) i (omega arith))
 
   present-same : (i : ℕ) → i < n → presentIn o lent i ≡ presentIn s lent i
@@ -331,15 +433,14 @@ module _ (s o : List ℕ) (lent : Lent) (ws : Below 256 s) (wo : Below 256 o) (l
   }
 
   -- and the twelve rows
-  gds-passes : (hasGrid o pdsStart && anyOf (gdsFaults o (placesOf o .gds))) ≡ false
-  unfolding gdsFaults
+  gds-passes : (hasGrid o pdsStart && gdsBad o (placesOf o .gds)) ≡ false
+  unfolding gdsBad
   gds-passes =
-      let p = placesOf s .gds in
-      (λ i. grid-there i && anyOf (gdsFaults o (places-same i .gds)))
+      (λ i. grid-there i && gdsBad o (places-same i .gds))
       ∙ gate (hasGrid s pdsStart) _ _
       (λ h i.
-      anyOf (not (eqb (p .len) gdsLength) ∷ not (eqb (grid-octet h 3 (omega arith) i) 0)
-      ∷ not (eqb (grid-octet h 4 (omega arith) i) 255) ∷ not (eqb (grid-octet h 5 (omega arith) i) 0) ∷ []))
+      not (anyOf (map (λ k. eqb (P .len) (lengthBy k) && (eqb (grid-octet h 3 (omega arith) i) 0
+      && (eqb (grid-octet h 4 (omega arith) i) (fifth k) && eqb (grid-octet h 5 (omega arith) i) (sixth k)))) kinds)))
       ∙ j .gds
     where
       gate : (b x y : Bool) → (b ≡ true → x ≡ y) → (b && x) ≡ (b && y)

@@ -5,6 +5,8 @@ pub mod Lists
 pub mod Tiles
 -- the sections, each laid, read back and laid again
 pub mod Laid
+pub mod Cells
+pub mod Octants
 pub mod GridSection
 pub mod BitmapSection
 pub mod DataSection
@@ -17,6 +19,7 @@ pub mod Points
 pub mod Told
 pub mod ReadBack
 pub mod Returned
+pub mod Fitting
 pub mod WriteBack
 pub mod Calls
 pub mod Exactly

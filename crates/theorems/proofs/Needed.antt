@@ -35,26 +35,26 @@ none : stains specimen nothing ≡ only 8
 unfolding computes
 none = refl
 
-reserved : Stained 0
+la1 : Stained 0
 unfolding computes
-reserved = stained 0 (set specimen 67 1) 67 tt tt refl (λ e. omega arith)
+la1 = stained 0 (set (set (set specimen 46 0x80) 47 0) 48 0) 46 tt tt refl (λ e. omega arith)
 
-la1 : Stained 1
+lo1 : Stained 1
 unfolding computes
-la1 = stained 1 (set (set (set specimen 46 0x80) 47 0) 48 0) 46 tt tt refl (λ e. omega arith)
-
-lo1 : Stained 2
-unfolding computes
-lo1 = stained 2 (set (set specimen 50 0) 51 0) 49 tt tt refl (λ e. omega arith)
+lo1 = stained 1 (set (set specimen 50 0) 51 0) 49 tt tt refl (λ e. omega arith)
 
 -- La1 below 0, for La2 to be above it
-la2 : Stained 3
+la2 : Stained 2
 unfolding computes
-la2 = stained 3 (set (set (set (set specimen 46 0x80) 53 0x80) 54 0) 55 0) 53 tt tt refl (λ e. omega arith)
+la2 = stained 2 (set (set (set (set specimen 46 0x80) 53 0x80) 54 0) 55 0) 53 tt tt refl (λ e. omega arith)
 
-lo2 : Stained 4
+lo2 : Stained 3
 unfolding computes
-lo2 = stained 4 (set (set specimen 57 0) 58 0) 56 tt tt refl (λ e. omega arith)
+lo2 = stained 3 (set (set specimen 57 0) 58 0) 56 tt tt refl (λ e. omega arith)
+
+reserved : Stained 4
+unfolding computes
+reserved = stained 4 (set specimen 67 1) 67 tt tt refl (λ e. omega arith)
 
 bitmap : Stained 5
 unfolding computes
@@ -75,5 +75,5 @@ stains-needed =
     (upto Stained 5
     (upto Stained 4
     (upto Stained 3
-    (upto Stained 2 (upto Stained 1 (upto Stained 0 (λ k l. absurd (not-suc-le-zero l)) reserved) la1) lo1) la2) lo2)
+    (upto Stained 2 (upto Stained 1 (upto Stained 0 (λ k l. absurd (not-suc-le-zero l)) la1) lo1) la2) lo2) reserved)
     bitmap) scale) padding

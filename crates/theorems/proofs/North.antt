@@ -2,59 +2,90 @@
 -- latitudes, and the chart is drawn by the flags.
 use Prim.Native.Nat.{ℕ, _-_, _<_}
 use mathlib.Core.Bool.{Bool, true, false, not, cond}
-use mathlib.Core.Path.{_≡_, refl, _∙_, ap}
+use mathlib.Core.Path.{_≡_, refl, sym, subst, _∙_, ap}
 use mathlib.Core.Logic.{inl, inr}
 use native.Mathlib.Omega.{arith}
 use borrow.Author.Tests.{lt-ltb, not-false}
 use lib.Dec.{ltb}
+use lib.ListN.{length}
 use lib.Signed.{ltZ}
-use Rattle.rules.specs.declared.{Shape.Shape, Grid.Grid, Spot.Spot}
+use Rattle.rules.specs.declared.{Signed.Signed, Rectangle.Rectangle, Thinning.Thinning, Shape.Shape}
+use Rattle.rules.specs.declared.{Shape.the-variants.Even, Shape.the-variants.Uneven, Octant.Octant, Geometry.Geometry}
+use Rattle.rules.specs.declared.{Geometry.the-variants.LatLon, Geometry.the-variants.Thinned, Grid.Grid, Spot.Spot}
+use Rattle.rules.specs.Counts.{countsOf}
+use Rattle.rules.specs.Numbers.{bit}
 use Rattle.rules.specs.Table.{anyOf}
-use Rattle.rules.specs.Grid.{theGrid, gridFaults, scanBad}
-use Rattle.rules.specs.Chart.{north}
+use Rattle.rules.specs.Grid.{shapeBy, shapeOf, theGrid, gridFaults, scanBad, edgesOf}
+use Rattle.rules.specs.Chart.{north, turned, spotAmong, rowsOn, spotOn}
 use Rattle.rules.specs.Reading.{gridOf}
 use Rattle.laws.proofs.Rows.{none-of, and-false}
+use Rattle.laws.proofs.Counts.{joined}
+use Rattle.laws.proofs.Grids.{faults-by}
 use Rattle.laws.proofs.Judged.{judged}
 use Rattle.theorems.specs.Reads.{DrawnIn, NorthOnTop, TopIsNorth}
+use Rattle.theorems.proofs.Octants.{one-of-eight}
 use Rattle.theorems.proofs.Place.{chart-drawn}
 
--- a scanned row by the flag
-drawn : (g : Shape) (j : ℕ) → j < g .nj → (b : Bool) → north (g .scan) ≡ b → (r : ℕ) → cond b (g .nj - 1 - j) j ≡ r
-    → DrawnIn g j r
-drawn g j l b e r f i li =
-    ap (λ (c : Spot). c .row) (chart-drawn (g .ni) (g .nj) (g .scan) j i l li)
-    ∙ ap (λ (x : Bool). cond x (g .nj - 1 - j) j) e ∙ f
+-- whether a shape's rows run north
+abbrev northOn : Shape → Bool
+northOn (Even q) = north (q .scan)
+northOn (Uneven u) = north (u .scan)
 
-by-flag : (g : Grid) → 1 < g .shape .nj → (b : Bool) → north (g .shape .scan) ≡ b
-    → not (cond b (ltZ (g .geometry .la1 .value) (g .geometry .la2 .value))
-    (ltZ (g .geometry .la2 .value) (g .geometry .la1 .value))) ≡ false
-    → NorthOnTop g
-by-flag g l true e h =
-    let n = g .shape .nj in
+-- scanned row j by the flag: of a rectangle, and of an octant
+row-drawn : (g : Shape) (j : ℕ) → j < rowsOn g → (b : Bool) → northOn g ≡ b → DrawnIn g j (cond b (rowsOn g - 1 - j) j)
+unfolding rowsOn spotOn spotAmong turned
+row-drawn (Even q) j l b e i li =
+    ap (λ (c : Spot). c .row) (chart-drawn (q .ni) (q .nj) (q .scan) j i l li)
+    ∙ ap (λ (x : Bool). cond x (q .nj - 1 - j) j) e
+row-drawn (Uneven u) j l b e i li =
+    let counts = countsOf (u .start) in
+    ap (turned (north (u .scan)) (length counts)) (joined counts j i l li .1)
+    ∙ ap (λ (x : Bool). cond x (length counts - 1 - j) j) e
+
+drawn : (g : Shape) (j : ℕ) → j < rowsOn g → (b : Bool) → northOn g ≡ b → (r : ℕ) → cond b (rowsOn g - 1 - j) j ≡ r
+    → DrawnIn g j r
+drawn g j l b e r f i li = row-drawn g j l b e i li ∙ f
+
+by-flag : (g : Shape) (la1 la2 : Signed) → 1 < rowsOn g → (b : Bool) → northOn g ≡ b
+    → not (cond b (ltZ (la1 .value) (la2 .value)) (ltZ (la2 .value) (la1 .value))) ≡ false
+    → NorthOnTop g la1 la2
+by-flag g la1 la2 l true e h =
+    let n = rowsOn g in
     let up : n - 1 - 0 ≡ n - 1 = omega (arith, l) in
     let down : n - 1 - (n - 1) ≡ 0 = omega (arith, l) in
     inr (
       not-false _ h,
-      drawn (g .shape) 0 (omega (arith, l)) true e (n - 1) up,
-      drawn (g .shape) (n - 1)
+      drawn g 0 (omega (arith, l)) true e (n - 1) up,
+      drawn g (n - 1)
           (omega (arith, l)) true e 0 down,
     )
-by-flag g l false e h =
-    let n = g .shape .nj in
+by-flag g la1 la2 l false e h =
+    let n = rowsOn g in
     inl (
       not-false _ h,
-      drawn (g .shape) 0 (omega (arith, l)) false e 0 refl,
-      drawn (g .shape) (n - 1)
+      drawn g 0 (omega (arith, l)) false e 0 refl,
+      drawn g (n - 1)
           (omega (arith, l)) false e (n - 1) refl,
     )
 
--- of any grid that row 9 passes
-pub north-on-top : (g : Grid) → anyOf (gridFaults g) ≡ false → 1 < g .shape .nj → NorthOnTop g
-unfolding gridFaults scanBad
-north-on-top g h l =
-    let f = none-of (gridFaults g) h in
-    by-flag g l (north (g .shape .scan)) refl
-    (and-false (ltb 1 (g .shape .nj)) _ (lt-ltb _ _ l) (f .1 .1 .1 .1 .1 .1 .1 .0))
+-- of any grid that row 9 passes: a rectangle by the scan test, an octant since it is one of the eight
+by-kind : (g : Grid) (x : Geometry) → g .geometry ≡ x → anyOf (gridFaults g) ≡ false → 1 < rowsOn (shapeBy g x)
+    → NorthOnTop (shapeBy g x) (g .la1) (edgesOf x .la2)
+unfolding rowsOn scanBad bit
+by-kind g (LatLon x) e h l =
+    let f = none-of _ (sym (faults-by g (LatLon x) e) ∙ h) in
+    by-flag (shapeBy g (LatLon x)) (g .la1) (x .la2) l (north (g .scan)) refl
+    (and-false (ltb 1 (g .nj)) _ (lt-ltb _ _ l) (f .1 .0))
+by-kind g (Thinned o) e h l =
+    let f = one-of-eight g o e h in
+    let up = subst (λ (y : Geometry). ltZ (g .la1 .value) (edgesOf y .la2 .value) ≡ true) e (f .up) in
+    by-flag (shapeBy g (Thinned o)) (g .la1) (o .edges .la2) l true (flag (g .scan) (f .scan)) (ap not up)
+  where
+    flag : (scan : ℕ) → scan ≡ 64 → north scan ≡ true
+    flag scan e = ap north e
 
 pub top-is-north : TopIsNorth
-top-is-north s lent t l = north-on-top (theGrid (gridOf s)) (judged s lent t .grid) l
+unfolding shapeOf
+top-is-north s lent t l =
+    let g = theGrid (gridOf s) in
+    by-kind g (g .geometry) refl (judged s lent t .grid) l

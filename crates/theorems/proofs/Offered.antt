@@ -31,6 +31,7 @@ use Rattle.rules.specs.Writing.{partsFaults, message, writeTable, writeRefusal}
 use Rattle.laws.specs.Tables.{Clear}
 use Rattle.theorems.specs.Returns.{NumberFits}
 use Rattle.bits.proofs.Tests.{both}
+use Rattle.laws.proofs.Grids.{grid-points}
 use Rattle.laws.proofs.Rows.{NoneOf, clear, accepts, none-of, any-none, and-false, clash, is-eq, inside}
 use Rattle.laws.proofs.Whole.{within}
 use Rattle.theorems.proofs.Laid.{Sec, whole-sec}
@@ -105,10 +106,8 @@ module _ (w : Parts) (out : List ℕ) (nf : NumberFits (w .form .bitmap)) (rf : 
   pds-most = inside pdsLeast pdsMost (length (w .pds)) (none-of _ (o .pds) .1 .0) .1
 
   pub points-most : pointsFor w ≤ pointsMost
-  unfolding gridFaults pointsFor
-  points-most =
-      inside 1 pointsMost (pointsOf (theGrid (gridFor w)))
-      (none-of (gridFaults (theGrid (gridFor w))) (o .grid) .1 .1 .0) .1
+  unfolding pointsFor
+  points-most = grid-points (theGrid (gridFor w)) (o .grid)
 
   pack-none : NoneOf (beyond exponentMost (w .scale .e .value) ∷ packingFaults (w .form .packing))
   pack-none = none-of (beyond exponentMost (w .scale .e .value) ∷ packingFaults (w .form .packing)) (o .packing)
@@ -117,7 +116,7 @@ module _ (w : Parts) (out : List ℕ) (nf : NumberFits (w .form .bitmap)) (rf : 
   unfolding packingFaults
   flags-lt = omega (arith, flags-two (w .form .packing .flags) (pack-none .1 .0))
 
-  bits-most : w .form .packing .bits ≤ bitsMost
+  pub bits-most : w .form .packing .bits ≤ bitsMost
   unfolding packingFaults
   bits-most = ltb-false bitsMost (w .form .packing .bits) (pack-none .1 .1 .0)
 

@@ -16,7 +16,7 @@ use Rattle.rules.specs.Bounds.{gdsLeast, bmsLeast, pointsMost}
 use Rattle.rules.specs.Numbers.{laid, joined}
 use Rattle.rules.specs.Table.{refusal, accepted, anyOf}
 use Rattle.rules.specs.Places.{pdsStart, hasGrid, hasBitmap, placesOf}
-use Rattle.rules.specs.Grid.{gridAt, gridFrom, gridMissing, theGrid, gdsFaults, gridFaults, pointsOf}
+use Rattle.rules.specs.Grid.{gridAt, gridFrom, gridMissing, theGrid, gdsBad, gridFaults, pointsOf}
 use Rattle.rules.specs.Bitmap.{bitmapGiven, markOf, valueOf, bitmapAt, bitmapFaults, inForce, bitmapOctets, presentBy}
 use Rattle.rules.specs.Bitmap.{bmsOf}
 use Rattle.rules.specs.Points.{gathered, scattered}
@@ -26,7 +26,7 @@ use Rattle.rules.specs.Reading.{scaleIn, dataIn, valuesIn, marksIn, ownRefusal}
 use Rattle.rules.specs.Writing.{Parts, gridFor, pointsFor, gridGiven, gdsFor, sectionsFor, message, writeRefusal}
 use Rattle.rules.specs.RoundTrip.{partsIn}
 use Rattle.laws.specs.Taken.{Taken}
-use Rattle.theorems.specs.Returns.{GridFits, NumberFits}
+use Rattle.theorems.specs.Returns.{FoundFits, NumberFits}
 use Rattle.laws.proofs.Rows.{taken-by}
 use Rattle.laws.proofs.Judged.{unjudged}
 use Rattle.laws.proofs.Fields.{laid-length}
@@ -68,10 +68,10 @@ message-laid w =
     (w .pds ++ (gdsPart w ++ (bmsPart w ++ (bdsPart w ++ x)))))
     (append-nil (laid ending []))
 
-message-length : (w : Parts) → length (message w) ≡ 8 + length (bodyFor w)
+pub message-length : (w : Parts) → length (message w) ≡ 8 + length (bodyFor w)
 message-length w = ap length (message-laid w) ∙ laid-length (ahead (8 + length (bodyFor w))) (bodyFor w)
 
-module _ (w : Parts) (out : List ℕ) (gf : GridFits (w .form .grid)) (nf : NumberFits (w .form .bitmap))
+module _ (w : Parts) (out : List ℕ) (gf : FoundFits (w .form .grid)) (nf : NumberFits (w .form .bitmap))
     (rf : w .scale .r < 2 ^ 32) (acc : T (accepted (writeRefusal w out))) where
   abbrev s : List ℕ
   s = message w
@@ -105,7 +105,7 @@ module _ (w : Parts) (out : List ℕ) (gf : GridFits (w .form .grid)) (nf : Numb
           length-body (w .pds) (gdsPart w) (bmsPart w) (bdsPart w),
           offer.pds-most w out nf rf told,
           found-most (w .form .grid),
-          bms-most (w .form .bitmap) (marksFor w) (pointsFor w) few,
+          bms-most (w .form .bitmap) (marksFor w) (pointsFor w) pointsMost few,
           bds-length (w .form .packing) (w .scale) (packedFor w),
           data-fine .few,
         );
@@ -140,7 +140,7 @@ module _ (w : Parts) (out : List ℕ) (gf : GridFits (w .form .grid)) (nf : Numb
   grid-in : gridIn s ≡ w .form .grid
   unfolding gridIn
   grid-in =
-      (λ i. cond (grid-there i) (Given (gridAt s (places i .gds .start))) Nothing)
+      (λ i. cond (grid-there i) (Given (gridAt s (places i .gds))) Nothing)
       ∙ found-back s (8 + length (w .pds)) (w .form .grid) _ stands-g grid-fine
 
   grid-of : gridOf s ≡ gridFor w
@@ -222,7 +222,7 @@ module _ (w : Parts) (out : List ℕ) (gf : GridFits (w .form .grid)) (nf : Numb
         places = places-none s p g m d h;
         time = time-none s p g m d h (told .time);
         found = ap gridMissing grid-of ∙ told .found;
-        gds = (λ i. grid-there i && anyOf (gdsFaults s (places i .gds)))
+        gds = (λ i. grid-there i && gdsBad s (places i .gds))
             ∙ found-none s (8 + length p) (w .form .grid) _ stands-g grid-fine;
         grid = ap (λ (f : Found). anyOf (gridFaults (theGrid f))) grid-of ∙ told .grid;
         bitmap =
@@ -247,7 +247,7 @@ module _ (w : Parts) (out : List ℕ) (gf : GridFits (w .form .grid)) (nf : Numb
     marks = marks-in i;
   }
 
-pub message-reads : (w : Parts) (out : List ℕ) → GridFits (w .form .grid) → NumberFits (w .form .bitmap)
+pub message-reads : (w : Parts) (out : List ℕ) → FoundFits (w .form .grid) → NumberFits (w .form .bitmap)
     → w .scale .r < 2 ^ 32 → T (accepted (writeRefusal w out))
     → Taken (message w) (w .lent) × (partsIn (message w) (w .lent) ≡ w)
 message-reads w out gf nf rf acc = (taken-by _ (taken w out gf nf rf acc), parts-in w out gf nf rf acc)

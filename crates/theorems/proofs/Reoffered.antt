@@ -216,7 +216,7 @@ module _ (s : List ℕ) (lent : Lent) (t : Taken s lent) where
         (
           differ-none _ _
               (sym (grid-same s pdsStart (w .pds) pds-octet)
-              ∙ grid-given (hasGrid s pdsStart) (gridAt s (placesOf s .gds .start))),
+              ∙ grid-given (hasGrid s pdsStart) (gridAt s (placesOf s .gds))),
           (differ-none _ _ (sym (bitmap-same s pdsStart (w .pds) pds-octet) ∙ kind s), tt),
         ),
       ),

@@ -1,27 +1,30 @@
 -- Demand 2: a message that is taken and canonical, read and written again, gives the same octets; from its end to its
 -- front, each section in the form `written ++ what follows ≡ what stands there`.
 use Prim.Native.Nat.{ℕ, _+_, _*_, _≤_}
-use mathlib.Core.Bool.{true, false, not}
+use mathlib.Core.Bool.{Bool, true, false, not, cond, _&&_}
 use mathlib.Core.Path.{_≡_, refl, sym, _∙_, ap}
-use mathlib.Core.List.{List, [], _++_}
+use mathlib.Core.List.{List, [], _∷_, _++_, map}
 use native.Mathlib.Omega.{arith}
 use borrow.Author.Tests.{not-true}
 use lib.Dec.{T}
 use lib.ListN.{length, take, drop, length-drop}
 use lib.Seq.{drop-length}
 use Rattle.bits.proofs.Cut.{cut}
-use Rattle.rules.specs.declared.{Part.Part}
+use Rattle.rules.specs.declared.{Part.Part, Grid.Grid, Found.the-variants.Nothing, Found.the-variants.Given}
 use Rattle.rules.specs.Numbers.{laid}
+use Rattle.rules.specs.Table.{anyOf}
+use Rattle.rules.specs.Grid.{gridAt, gridStains, gridFrom, theGrid, gridFaults}
 use Rattle.rules.specs.Places.{endStart, pdsStart, hasGrid, hasBitmap, placesOf, gribBad, editionBad, totalFaults}
 use Rattle.rules.specs.Bitmap.{Lent, markOf, valueOf, bmsOf}
 use Rattle.rules.specs.Points.{gathered}
 use Rattle.rules.specs.Values.{packingAt, lengthBad, bdsOf}
-use Rattle.rules.specs.Reading.{gridIn, bitmapIn, pointsIn, packingIn, scaleIn, dataIn, presentCount}
+use Rattle.rules.specs.Reading.{gridIn, gridOf, bitmapIn, pointsIn, packingIn, scaleIn, dataIn, presentCount}
 use Rattle.rules.specs.Writing.{Parts, gdsFor, message, writeRefusal, writeOf, outputAfter}
 use Rattle.rules.specs.RoundTrip.{partsIn, minusZero, bitmapPaddingSet, dataPaddingSet, stains, canonical}
 use Rattle.laws.specs.Taken.{Taken}
 use Rattle.theorems.specs.Returns.{Below, WriteAfterRead}
-use Rattle.laws.proofs.Rows.{none-of, any-none, is-true, is-eq}
+use Rattle.laws.proofs.Rows.{none-of, any-none, is-true, is-eq, clash}
+use Rattle.theorems.proofs.Cells.{none-both, none-parts}
 use Rattle.theorems.proofs.Replies.{handed-is}
 use Rattle.laws.proofs.Judged.{Judged, judged}
 use Rattle.laws.proofs.Sections.{Sections, sections}
@@ -36,31 +39,42 @@ use Rattle.theorems.proofs.Reoffered as read
 
 -- what the list of stains says of each section, there and back
 pub record Clean (s : List ℕ) (lent : Lent) : Type 0 where
-  pub grid : GridClean (hasGrid s pdsStart) s (placesOf s .gds .start)
+  pub grid : GridClean (hasGrid s pdsStart) s (placesOf s .gds)
   pub bitmap : bitmapPaddingSet s (bitmapIn s) (placesOf s .bms .start) (pointsIn s) ≡ false
   pub scale : minusZero s (placesOf s .bds .start) 5 6 ≡ false
   pub padding : dataPaddingSet s (placesOf s .bds .start) (placesOf s .bds .len)
       (presentCount s lent * packingIn s .bits) ≡ false
 
+abbrev gridTests : List ℕ → List Bool
+gridTests s = map (λ (t : Bool). hasGrid s pdsStart && t) (gridStains s (placesOf s .gds))
+
+abbrev otherTests : List ℕ → Lent → List Bool
+otherTests s lent =
+    bitmapPaddingSet s (bitmapIn s) (placesOf s .bms .start) (pointsIn s)
+    ∷ minusZero s (placesOf s .bds .start) 5 6
+    ∷ dataPaddingSet s (placesOf s .bds .start) (placesOf s .bds .len) (presentCount s lent * packingIn s .bits)
+    ∷ []
+
 clean-of : (s : List ℕ) (lent : Lent) → T (canonical s lent) → Clean s lent
 unfolding canonical stains
 clean-of s lent c =
-    let h = none-of (stains s lent) (not-true _ (is-true _ c)) in
-    let d = h .1 .1 .1 .1 .1 in
-    record {
-      grid = record { reserved = h .0; la1 = h .1 .0; lo1 = h .1 .1 .0; la2 = h .1 .1 .1 .0; lo2 = h .1 .1 .1 .1 .0 };
-      bitmap = d .0;
-      scale = d .1 .0;
-      padding = d .1 .1 .0;
-    }
+    let h = none-parts (gridTests s) (otherTests s lent) (none-of (stains s lent) (not-true _ (is-true _ c))) in
+    let d = h .1 in
+    record { grid = h .0; bitmap = d .0; scale = d .1 .0; padding = d .1 .1 .0 }
 
 pub clean-canonical : (s : List ℕ) (lent : Lent) → Clean s lent → canonical s lent ≡ true
 unfolding canonical stains
 clean-canonical s lent c =
-    ap not (any-none (stains s lent) (
-      c .grid .reserved,
-      (c .grid .la1, (c .grid .lo1, (c .grid .la2, (c .grid .lo2, (c .bitmap, (c .scale, (c .padding, tt))))))),
-    ))
+    ap not (any-none (stains s lent)
+    (none-both (gridTests s) (otherTests s lent) (c .grid) (c .bitmap, (c .scale, (c .padding, tt)))))
+
+-- the grid of a section that is there is the one judged
+judged-grid : (b : Bool) (s : List ℕ) (g : Grid)
+    → anyOf (gridFaults (theGrid (gridFrom (cond b (Given g) Nothing) s pdsStart))) ≡ false
+    → b ≡ true → anyOf (gridFaults g) ≡ false
+unfolding gridFrom
+judged-grid true s g h e = h
+judged-grid false s g h e = clash false e refl
 
 module _ (s : List ℕ) (lent : Lent) (below : Below 256 s) (t : Taken s lent) (c : Clean s lent) where
   abbrev w : Parts
@@ -110,10 +124,10 @@ module _ (s : List ℕ) (lent : Lent) (below : Below 256 s) (t : Taken s lent) (
       (read.by-map s lent t)
 
   gds-here : gdsFor (gridIn s) ++ drop (G .start + G .len) s ≡ drop (G .start) s
-  unfolding gridIn
+  unfolding gridIn gridOf
   gds-here =
       found-here (hasGrid s pdsStart) s G below (omega (arith, at .at-bms, at .at-bds, at .end)) (at .gds) (j .gds)
-      (c .grid)
+      (judged-grid (hasGrid s pdsStart) s (gridAt s G) (j .grid)) (c .grid)
 
   body-here : body (w .pds) (gdsFor (gridIn s)) (bmsOf (bitmapIn s) (markOf (w .marks)) (pointsIn s))
       (bdsOf (packingIn s) (scaleIn s) (read.xs s lent t)) ≡ drop pdsStart s

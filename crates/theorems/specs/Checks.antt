@@ -20,7 +20,7 @@ use Rattle.rules.specs.Checking.{Source, numberOf, presentOf, checkOf}
 use Rattle.rules.specs.Packing.{spellingOf, reference, above, exponent, packedParts, packRefusal, packOf, packedAfter}
 use Rattle.laws.specs.Taken.{Taken}
 use Rattle.laws.specs.Sources.{AtPresent, SomePresent, WellFormed, Agrees, InRange, Fits}
-use Rattle.theorems.specs.Returns.{GridFits, NumberFits, handed}
+use Rattle.theorems.specs.Returns.{FoundFits, NumberFits, handed}
 
 -- "every present source number is within half a binary step of its unpacked value": 2 × |V − R − X × 2^E| ≤ 2^E
 abbrev pub Near : List ℕ → Lent → Source → ℕ → Type 0
@@ -42,7 +42,7 @@ CheckExactly = (s : List ℕ) (lent : Lent) (f : Source) → (checkOf s lent f �
 -- "Whenever our packer isn't refused, the message it writes passes that check against its own source and stored bitmap"
 abbrev pub PackedPasses : Type 0
 PackedPasses =
-    (pds : List ℕ) (form : Form) (lent : Lent) (f : Source) (out : List ℕ) → GridFits (form .grid)
+    (pds : List ℕ) (form : Form) (lent : Lent) (f : Source) (out : List ℕ) → FoundFits (form .grid)
     → NumberFits (form .bitmap)
     → T (accepted (packRefusal pds form lent f out))
     → checkOf (handed (packOf pds form lent f out) (packedAfter pds form lent f out)) lent f ≡ refusal 0

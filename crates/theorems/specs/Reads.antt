@@ -8,20 +8,22 @@ use mathlib.Core.List.{List, [], _∷_, map}
 use lib.Dec.{T, eqb}
 use lib.IntN.{pos, negsuc}
 use lib.Signed.{ltZ}
-use lib.ListN.{length, getD, take, drop}
+use lib.ListN.{length, getD, take, drop, replicate}
 use lib.Ieee.{binary64, ofBits}
 use lib.Ieee.Exact.{HasValue}
 use Rattle.bits.specs.Bits.{bitsIn, run, count}
-use Rattle.rules.specs.declared.{Header.Header, Part.Part, Bitmap.the-variants.Without, Shape.Shape, Grid.Grid}
+use Rattle.rules.specs.declared.{Header.Header, Signed.Signed, Part.Part, Bitmap.the-variants.Without, Shape.Shape}
+use Rattle.rules.specs.declared.{Shape.the-variants.Even, Shape.the-variants.Uneven}
 use Rattle.rules.specs.declared.{GridPoint.GridPoint, Spot.Spot, Charted.the-variants.On, Pointed.the-variants.At}
 use Rattle.rules.specs.Bounds.{bdsHead}
 use Rattle.rules.specs.Numbers.{joined, decimalAt}
 use Rattle.rules.specs.Table.{refusal, accepted}
 use Rattle.rules.specs.Places.{octetsOf, noPart, after, pdsStart, endStart, hasGrid, hasBitmap, placesOf, sectionsOf}
 use Rattle.rules.specs.Time.{momentAt}
-use Rattle.rules.specs.Grid.{theGrid}
-use Rattle.rules.specs.Chart.{west, north, byColumn, spotOf, pointsOn, rowsOn, rowLong, spotOn, pointOn, charted}
-use Rattle.rules.specs.Chart.{pointed}
+use Rattle.rules.specs.Counts.{total, beforeRow, countsOf}
+use Rattle.rules.specs.Grid.{theGrid, shapeOf, edgesOf}
+use Rattle.rules.specs.Chart.{west, north, byColumn, spotOf, pointOf, spotAmong, pointAmong, pointsOn, rowsOn, rowLong}
+use Rattle.rules.specs.Chart.{spotOn, pointOn, charted, pointed}
 use Rattle.rules.specs.Bitmap.{Lent, markOf, marksLong, valueOf}
 use Rattle.rules.specs.Points.{numbered, absent}
 use Rattle.rules.specs.Values.{sOf, bOf, sizeOf, unit}
@@ -161,27 +163,33 @@ ChartDrawn =
     (ni nj scan j i : ℕ) → j < nj → i < ni
     → spotOf ni nj scan (cond (byColumn scan) (i * nj + j) (j * ni + i)) ≡ record { row = cond (north scan) (nj - 1 - j) j; column = cond (west scan) (ni - 1 - i) i }
 
--- "The chart's row 0 is north", by the latitudes: La1 is the first scanned row's and La2 the last one's. Point i of
--- scanned row j, and the chart's row in which all of them are drawn
-abbrev pub scanned : Shape → ℕ → ℕ → ℕ
-scanned g j i = cond (byColumn (g .scan)) (i * g .nj + j) (j * g .ni + i)
+-- "The chart's row 0 is north", by the latitudes: La1 is the first scanned row's and La2 the last one's. How many points
+-- scanned row j has, point i of it, and the chart's row in which all of them are drawn
+abbrev pub scannedLong : Shape → ℕ → ℕ
+scannedLong (Even q) j = q .ni
+scannedLong (Uneven u) j = getD (countsOf (u .start)) j 0
+
+abbrev pub scannedPoint : Shape → ℕ → ℕ → ℕ
+scannedPoint (Even q) j i = cond (byColumn (q .scan)) (i * q .nj + j) (j * q .ni + i)
+scannedPoint (Uneven u) j i = beforeRow (countsOf (u .start)) j + i
 
 abbrev pub DrawnIn : Shape → ℕ → ℕ → Type 0
-DrawnIn g j r = (i : ℕ) → i < g .ni → spotOn g (scanned g j i) .row ≡ r
+DrawnIn g j r = (i : ℕ) → i < scannedLong g j → spotOn g (scannedPoint g j i) .row ≡ r
 
 -- of a grid of more than one row: where La1 is above La2 the first scanned row is the chart's row 0 and the last one
 -- its last, where La2 is above La1 they change places, and there is no third case
-abbrev pub NorthOnTop : Grid → Type 0
-NorthOnTop g =
-    let last = g .shape .nj - 1 in
-    ((ltZ (g .geometry .la2 .value) (g .geometry .la1 .value) ≡ true) × DrawnIn (g .shape) 0 0
-    × DrawnIn (g .shape) last last)
-    ⊎ ((ltZ (g .geometry .la1 .value) (g .geometry .la2 .value) ≡ true) × DrawnIn (g .shape) 0 last
-    × DrawnIn (g .shape) last 0)
+abbrev pub NorthOnTop : Shape → Signed → Signed → Type 0
+NorthOnTop g la1 la2 =
+    let last = rowsOn g - 1 in
+    ((ltZ (la2 .value) (la1 .value) ≡ true) × DrawnIn g 0 0 × DrawnIn g last last)
+    ⊎ ((ltZ (la1 .value) (la2 .value) ≡ true) × DrawnIn g 0 last × DrawnIn g last 0)
 
 -- of every message that is taken, by its GDS or by the catalogue
 abbrev pub TopIsNorth : Type 0
-TopIsNorth = (s : List ℕ) (lent : Lent) → Taken s lent → let g = theGrid (gridOf s) in 1 < g .shape .nj → NorthOnTop g
+TopIsNorth =
+    (s : List ℕ) (lent : Lent) → Taken s lent
+    → let g = theGrid (gridOf s) in 1 < rowsOn (shapeOf g)
+    → NorthOnTop (shapeOf g) (g .la1) (edgesOf (g .geometry) .la2)
 
 -- "the row and column of each grid point": place and point determine each other on every grid, whatever its flags
 abbrev pub PlacePoint : Type 0
@@ -195,6 +203,15 @@ PlacePoint =
 -- and so as they are answered
 abbrev pub PlacePointAnswers : Type 0
 PlacePointAnswers = (g : Shape) (k : GridPoint) (c : Spot) → (charted g k ≡ On c) ↔ (pointed g c ≡ At k)
+
+-- R-1: "A place is then a row and a position in that row": the rectangle scanned by rows is the case of equal counts,
+-- its points, and the place of each and back
+abbrev pub EqualCounts : Type 0
+EqualCounts =
+    (ni nj scan : ℕ) → byColumn scan ≡ false
+    → (total (replicate nj ni) ≡ ni * nj)
+    × ((k : ℕ) → k < ni * nj → spotAmong (replicate nj ni) scan k ≡ spotOf ni nj scan k)
+    × ((c : Spot) → c .row < nj → c .column < ni → pointAmong (replicate nj ni) scan c ≡ pointOf ni nj scan c)
 
 -- "IEEE doubles of exactly those values": R in size sizeOf r / 16^70 with its sign, and 2^E. "R with B = 0 gives all
 -- bits zero"

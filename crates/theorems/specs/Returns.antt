@@ -7,14 +7,15 @@ use mathlib.Core.Bool.{Bool, cond}
 use mathlib.Core.List.{List, [], _∷_}
 use lib.Dec.{T, eqb}
 use lib.ListN.{length, getD, take}
-use Rattle.rules.specs.declared.{Header.Header, Shape.Shape, Geometry.Geometry, Found.Found, Found.the-variants.Nothing}
+use Rattle.rules.specs.declared.{Header.Header, Grid.Grid, Found.Found, Found.the-variants.Nothing}
 use Rattle.rules.specs.declared.{Found.the-variants.Given, Bitmap.Bitmap, Bitmap.the-variants.Without}
 use Rattle.rules.specs.declared.{Bitmap.the-variants.Carried, Bitmap.the-variants.Stored, Form.Form, Written.Written}
-use Rattle.bits.specs.Bits.{bitsIn}
-use Rattle.rules.specs.Bounds.{bmsHead, bdsHead}
-use Rattle.rules.specs.Numbers.{octet}
+use Rattle.bits.specs.Bits.{bitsIn, octetsFor}
+use Rattle.rules.specs.Bounds.{pdsMost, gdsLength, bmsHead, bdsHead, pointsMost, bitsMost}
+use Rattle.rules.specs.Numbers.{octet, evenFrom}
 use Rattle.rules.specs.Table.{refusal, accepted}
 use Rattle.rules.specs.Places.{octetsOf, pdsStart, hasGrid, placesOf}
+use Rattle.rules.specs.Grid.{edgesOf}
 use Rattle.rules.specs.Bitmap.{Lent, marksLong}
 use Rattle.rules.specs.Reading.{pointsIn, bitmapIn, presentCount, packingIn, readOf, valuesAfter, marksAfter}
 use Rattle.rules.specs.Writing.{Parts, pointsFor, message, writeRefusal, writeOf, outputAfter, lengthFor}
@@ -28,19 +29,17 @@ use Rattle.theorems.specs.Reads.{Tells}
 abbrev pub Below : ℕ → List ℕ → Type 0
 Below b s = (i : ℕ) → getD s i 0 < b
 
-pub record ShapeFits (g : Shape) : Type 0 where
+pub record GridFits (g : Grid) : Type 0 where
   pub ni : g .ni < 2 ^ 16
   pub nj : g .nj < 2 ^ 16
+  pub flags : g .flags < 2 ^ 8
   pub scan : g .scan < 2 ^ 8
+  pub di : edgesOf (g .geometry) .di < 2 ^ 16
+  pub dj : edgesOf (g .geometry) .dj < 2 ^ 16
 
-pub record GeometryFits (a : Geometry) : Type 0 where
-  pub flags : a .flags < 2 ^ 8
-  pub di : a .di < 2 ^ 16
-  pub dj : a .dj < 2 ^ 16
-
-abbrev pub GridFits : Found → Type 0
-GridFits Nothing = Unit {0}
-GridFits (Given g) = ShapeFits (g .shape) × GeometryFits (g .geometry)
+abbrev pub FoundFits : Found → Type 0
+FoundFits Nothing = Unit {0}
+FoundFits (Given g) = GridFits g
 
 abbrev pub NumberFits : Bitmap → Type 0
 NumberFits Without = Unit {0}
@@ -86,7 +85,7 @@ pub record Returned (w : Parts) (s : List ℕ) : Type 0 where
 -- "Writing gives a message that reads back to the same parts with the same stored bitmap lent"
 abbrev pub ReadAfterWrite : Type 0
 ReadAfterWrite =
-    (w : Parts) (out : List ℕ) → GridFits (w .form .grid) → NumberFits (w .form .bitmap) → w .scale .r < 2 ^ 32
+    (w : Parts) (out : List ℕ) → FoundFits (w .form .grid) → NumberFits (w .form .bitmap) → w .scale .r < 2 ^ 32
     → T (accepted (writeRefusal w out))
     → Returned w (handed (writeOf w out) (outputAfter w out))
 
@@ -94,7 +93,7 @@ ReadAfterWrite =
 -- were given
 abbrev pub WriteThenRead : Type 0
 WriteThenRead =
-    (w : Parts) (out values marks : List ℕ) → GridFits (w .form .grid) → NumberFits (w .form .bitmap)
+    (w : Parts) (out values marks : List ℕ) → FoundFits (w .form .grid) → NumberFits (w .form .bitmap)
     → w .scale .r < 2 ^ 32
     → T (accepted (writeRefusal w out)) → pointsFor w ≤ length values → marksLong (pointsFor w) ≤ length marks
     → let s = handed (writeOf w out) (outputAfter w out) in
@@ -142,7 +141,7 @@ StainsNeeded = (k : ℕ) → k < 8 → Stained k
 -- of neither)
 abbrev pub WrittenCanonical : Type 0
 WrittenCanonical =
-    (w : Parts) (out : List ℕ) → GridFits (w .form .grid) → NumberFits (w .form .bitmap) → w .scale .r < 2 ^ 32
+    (w : Parts) (out : List ℕ) → FoundFits (w .form .grid) → NumberFits (w .form .bitmap) → w .scale .r < 2 ^ 32
     → T (accepted (writeRefusal w out))
     → T (canonical (handed (writeOf w out) (outputAfter w out)) (w .lent))
 
@@ -169,6 +168,18 @@ PaddingIgnored =
     (s o : List ℕ) (lent : Lent) → Below 256 s → Below 256 o → length o ≡ length s
     → ((i : ℕ) → (Ignored s lent i → ⊥) → bitsIn 8 o i ≡ bitsIn 8 s i)
     → Taken s lent → Taken o lent × (partsIn o lent ≡ partsIn s lent)
+
+-- "n = Ni × Nj", at most 65,536, "The GDS is 178 octets" of 3,447 points: what is written fits the octets that the faces
+-- name (GRIB1_WRITTEN_MOST): an indicator, a PDS, a GDS, a bitmap and data of the most points, and the end
+abbrev pub writtenMost : ℕ
+writtenMost =
+    8 + pdsMost + gdsLength + evenFrom (bmsHead + octetsFor pointsMost)
+    + evenFrom (bdsHead + octetsFor (pointsMost * bitsMost)) + 4
+
+abbrev pub WrittenFits : Type 0
+WrittenFits =
+    (w : Parts) (out : List ℕ) → NumberFits (w .form .bitmap) → w .scale .r < 2 ^ 32 → T (accepted (writeRefusal w out))
+    → length (message w) ≤ writtenMost
 
 -- what a caller lends by: where writing takes the parts, or lacks nothing but room for them (14), the length told
 -- beforehand by all but E, R and the values is the message's

@@ -1,1 +1,1 @@
-// No code: specs/ states what is proved of the definitions of document 01, demand by demand, and proofs/ proves it.
+// No code: specs/ states what is proved of the definitions in `rules`, demand by demand, and proofs/ proves it.

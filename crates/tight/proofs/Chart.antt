@@ -4,6 +4,9 @@ use Rattle.chart.proofs as contracts
 use Rattle.tight.specs.Tight.{Tight}
 use Rattle.tight.proofs.Laws.{by-reply}
 
+pub «shape_of» : Tight contracts.shape_of.ended λ M. contracts.shape_of.clauses
+«shape_of» k g h x y ws vs = by-reply k refl
+
 pub «points_on» : Tight contracts.points_on.ended λ M. contracts.points_on.clauses
 «points_on» k g h x y ws vs = by-reply k refl
 

@@ -25,6 +25,9 @@ pub «grib1_place» : Tight contracts.grib1_place.ended λ M. contracts.grib1_pl
 pub «grib1_point» : Tight contracts.grib1_point.ended λ M. contracts.grib1_point.clauses
 «grib1_point» k g h x y ws vs = by-reply k refl
 
+pub «grib1_row» : Tight contracts.grib1_row.ended λ M. contracts.grib1_row.clauses
+«grib1_row» k g h x y ws vs = by-reply k refl
+
 pub «grib1_data_number» : Tight contracts.grib1_data_number.ended λ M. contracts.grib1_data_number.clauses
 «grib1_data_number» k g h x y ws vs = by-reply k refl
 

@@ -4,9 +4,6 @@ use Rattle.grid.proofs as contracts
 use Rattle.tight.specs.Tight.{Tight}
 use Rattle.tight.proofs.Laws.{by-reply}
 
-pub «grid_in» : Tight contracts.grid_in.ended λ M. contracts.grid_in.clauses
-«grid_in» k g h x y ws vs = by-reply k refl
-
 pub «grid_from» : Tight contracts.grid_from.ended λ M. contracts.grid_from.clauses
 «grid_from» k g h x y ws vs = by-reply k refl
 
@@ -15,9 +12,6 @@ pub «grid_missing» : Tight contracts.grid_missing.ended λ M. contracts.grid_m
 
 pub «the_grid» : Tight contracts.the_grid.ended λ M. contracts.the_grid.clauses
 «the_grid» k g h x y ws vs = by-reply k refl
-
-pub «gds_bad» : Tight contracts.gds_bad.ended λ M. contracts.gds_bad.clauses
-«gds_bad» k g h x y ws vs = by-reply k refl
 
 pub points : Tight contracts.points.ended λ M. contracts.points.clauses
 points k g h x y ws vs = by-reply k refl

@@ -25,6 +25,9 @@ pub «written_record» : Tight contracts.written_record.ended λ M. contracts.wr
 pub «check_record» : Tight contracts.check_record.ended λ M. contracts.check_record.clauses
 «check_record» k g h x y ws vs = by-reply k refl
 
+pub «grid_back» : Tight contracts.grid_back.ended λ M. contracts.grid_back.clauses
+«grid_back» k g h x y ws vs = by-reply k refl
+
 pub «form_by» : Tight contracts.form_by.ended λ M. contracts.form_by.clauses
 «form_by» k g h x y ws vs = by-reply k refl
 

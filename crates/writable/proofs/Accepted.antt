@@ -22,6 +22,7 @@ use Rattle.bits.proofs.Tests.{both, or-right}
 use Rattle.laws.proofs.Whole.{within}
 use Rattle.laws.specs.Signs.{SignFree}
 use Rattle.reply.proofs.Stages.{passed}
+use Rattle.laws.proofs.Grids.{grid-points}
 use Rattle.laws.proofs.Rows.{none-of}
 use Rattle.laws.proofs.Points.{flags-two, point-ok as pointKept, even-marks}
 use Rattle.writable.specs.Rows.{frontRows, exponentFaults, middleRows, earlyRows, pointsBad, listFaults, ownRows}
@@ -68,19 +69,17 @@ pub record Accepted (pds : List ℕ) (form : Form) (scale : Scale) (values marks
 pub accepted-of : (pds : List ℕ) (form : Form) (scale : Scale) (lent : Lent) (values marks : List ℕ) (found : Found) (n : ℕ) (r : Refusal)
     → r ≡ first (ownRows pds form scale lent values marks found n) → r .number ≡ 0
     → Accepted pds form scale values marks found n
-unfolding ownRows earlyRows frontRows middleRows listFaults pdsFaults gridFaults listsFit pointsBad
+unfolding ownRows earlyRows frontRows middleRows listFaults pdsFaults listsFit pointsBad
 accepted-of pds form scale lent values marks found n r e z =
     let p = passed (ownRows pds form scale lent values marks found n) (tt, (tt, (tt, (tt, (tt, (tt, (tt, tt))))))) (ap (λ (q : Refusal). q .number) (sym e) ∙ z) in
     let g = p .1 .1 .1 in
     let a = none-of (pdsFaults pds) (p .0) in
-    let c = none-of (gridFaults (theGrid found)) (g .0) in
     let q = none-of (listFaults pds form values marks n) (g .1 .1 .1 .0) in
     let fit = not-false (eqb (length values) n && eqb (length marks) n) (q .0) in
     record {
       pds-most = ltb-false pdsMost (length pds)
           (or-right (ltb (length pds) pdsLeast) (ltb pdsMost (length pds)) (a .1 .0));
-      points-most = ltb-false pointsMost (pointsOf (theGrid found))
-          (or-right (ltb (pointsOf (theGrid found)) 1) (ltb pointsMost (pointsOf (theGrid found))) (c .1 .1 .0));
+      points-most = grid-points (theGrid found) (g .0);
       grid = g .0;
       scaled = g .1 .1 .0;
       values-long = eqb-true (length values) n (both (eqb (length values) n) (eqb (length marks) n) fit .0);

@@ -2,34 +2,35 @@
 // value and mark.
 use crate::POINTS;
 use crate::line::word;
+use kinds::edges_of;
+use kinds::rows_number;
 use rules::Bitmap;
+use rules::Edges;
 use rules::Form;
 use rules::Found;
-use rules::Geometry;
 use rules::Grid;
 use rules::Header;
 use rules::Scale;
-use rules::Shape;
 
-// Whether two shapes are the same.
-fn same_shape(a: Shape, b: Shape) -> bool {
-    (a.ni == b.ni) & (a.nj == b.nj) & (a.scan == b.scan)
+// Whether two grids' edges are the same, by value.
+fn same_edges(a: Edges, b: Edges) -> bool {
+    (a.la2.value == b.la2.value) & (a.lo2.value == b.lo2.value) & (a.di == b.di) & (a.dj == b.dj)
 }
 
-// Whether two geometries are the same, by value.
-fn same_geometry(a: Geometry, b: Geometry) -> bool {
-    (a.la1.value == b.la1.value)
+// Whether two grids are the same, by value.
+fn same_grid(a: Grid, b: Grid) -> bool {
+    let x = a.geometry;
+    let y = b.geometry;
+    let m = edges_of(x);
+    let n = edges_of(y);
+    (a.ni == b.ni)
+        & (a.nj == b.nj)
+        & (a.la1.value == b.la1.value)
         & (a.lo1.value == b.lo1.value)
         & (a.flags == b.flags)
-        & (a.la2.value == b.la2.value)
-        & (a.lo2.value == b.lo2.value)
-        & (a.di == b.di)
-        & (a.dj == b.dj)
-}
-
-// Whether two grids are the same.
-fn same_grid(a: Grid, b: Grid) -> bool {
-    same_shape(a.shape, b.shape) & same_geometry(a.geometry, b.geometry)
+        & (a.scan == b.scan)
+        & same_edges(m, n)
+        & (rows_number(x) == rows_number(y))
 }
 
 // The grid given is the message's; where none was, it has no grid section.

@@ -1,21 +1,22 @@
-// A vector's fields, 50 octets: 1 the call; 2 whether a grid is given, 3-28 the grid; 29 the bitmap's kind, 30-31 its
+// A vector's fields, 51 octets: 1 the call; 2 whether a grid is given, 3-28 the grid; 29 the bitmap's kind, 30-31 its
 // number; 32 flags; 33 N; 34-37 E; 38-41 R; 42-45 D; 46-47 the lent bitmap's number; 48-50 how many octets are lent for
-// the message. Of E, D, latitudes and longitudes, one below 0 stands there as 2^31 and how far it is below -1.
+// the message; 51 how the grid's rows are counted. Of E, D, latitudes and longitudes, one below 0 stands there as 2^31
+// and how far it is below -1.
+use kinds::geometry_by;
 use octets::four;
 use octets::octet;
 use octets::plain;
 use octets::two;
 use rules::Bitmap;
+use rules::Edges;
 use rules::Form;
 use rules::Found;
-use rules::Geometry;
 use rules::Grid;
 use rules::Packing;
 use rules::Scale;
-use rules::Shape;
 use rules::Signed;
 
-pub(crate) const FIELDS: usize = 50;
+pub(crate) const FIELDS: usize = 51;
 
 // A number with its sign.
 pub(crate) fn lowered(x: u32) -> i32 {
@@ -37,21 +38,20 @@ pub(crate) fn call(fields: &[u8]) -> u8 {
 
 // The grid.
 fn grid(fields: &[u8]) -> Grid {
+    let edges = Edges {
+        la2: signed(fields, 16),
+        lo2: signed(fields, 20),
+        di: two(fields, 0, 24),
+        dj: two(fields, 0, 26),
+    };
     Grid {
-        shape: Shape {
-            ni: two(fields, 0, 3),
-            nj: two(fields, 0, 5),
-            scan: octet(fields, 0, 28),
-        },
-        geometry: Geometry {
-            la1: signed(fields, 7),
-            lo1: signed(fields, 11),
-            flags: octet(fields, 0, 15),
-            la2: signed(fields, 16),
-            lo2: signed(fields, 20),
-            di: two(fields, 0, 24),
-            dj: two(fields, 0, 26),
-        },
+        ni: two(fields, 0, 3),
+        nj: two(fields, 0, 5),
+        la1: signed(fields, 7),
+        lo1: signed(fields, 11),
+        flags: octet(fields, 0, 15),
+        scan: octet(fields, 0, 28),
+        geometry: geometry_by(octet(fields, 0, 51), edges),
     }
 }
 

@@ -2,7 +2,7 @@
 
 use second_reading as rules;
 use second_reading::grid::{from_catalogue, points};
-use second_reading::{BitmapKind, DataNumber, Form, Grid, Header, Lent, Part, Parts, Source};
+use second_reading::{BitmapKind, DataNumber, Form, Grid, Header, Lent, Part, Parts, Rows, Source};
 
 /// The functions by the driver's numbers.
 const HEADER: u32 = 0;
@@ -17,6 +17,7 @@ const POINT: u32 = 8;
 const WRITE: u32 = 9;
 const PACK: u32 = 10;
 const LENGTH: u32 = 11;
+const ROW: u32 = 12;
 
 pub struct Call {
     /// What is called, for the report of a difference.
@@ -62,9 +63,14 @@ impl Octets {
     }
 
     fn grid(&mut self, g: &Grid) -> &mut Octets {
+        self.grid_as(g, g.rows.number())
+    }
+
+    /// The grid with this number for its rows: of counts that no octant has it may be any above 2.
+    fn grid_as(&mut self, g: &Grid, rows: u8) -> &mut Octets {
         self.words(&[g.la1 as u32, g.lo1 as u32, g.la2 as u32, g.lo2 as u32])
             .words(&[g.ni as u32, g.nj as u32, g.di as u32, g.dj as u32])
-            .words(&[g.flags as u32, g.scan as u32])
+            .words(&[g.flags as u32, g.scan as u32, rows as u32])
     }
 
     fn part(&mut self, stored: bool, p: Part) -> &mut Octets {
@@ -85,8 +91,9 @@ impl Octets {
 
     fn form(&mut self, form: &Form, kinds: Kinds) -> &mut Octets {
         let (kind, number) = bitmap_numbers(form.bitmap);
+        let grid = form.grid.unwrap_or_default();
         self.words(&[kinds.given.unwrap_or(form.grid.is_some() as u32), kinds.bitmap.unwrap_or(kind)])
-            .grid(&form.grid.unwrap_or_default())
+            .grid_as(&grid, kinds.rows.unwrap_or(grid.rows.number()))
             .words(&[number, form.flags as u32, form.bits as u32])
     }
 
@@ -110,12 +117,15 @@ fn bitmap_numbers(kind: BitmapKind) -> (u32, u32) {
 pub struct Kinds {
     pub given: Option<u32>,
     pub bitmap: Option<u32>,
+    /// Above 2.
+    pub rows: Option<u8>,
 }
 
 /// What a form with such kinds stands for: a grid that 9 refuses, a stored bitmap that 10 refuses.
 fn form_meant(form: &Form, kinds: Kinds) -> Form {
+    let rows = |g: Grid| Grid { rows: if kinds.rows.is_some() { Rows::Neither } else { g.rows }, ..g };
     Form {
-        grid: if kinds.given.is_some() { Some(Grid::default()) } else { form.grid },
+        grid: if kinds.given.is_some() { Some(Grid::default()) } else { form.grid.map(rows) },
         bitmap: if kinds.bitmap.is_some() { BitmapKind::Stored(0) } else { form.bitmap },
         ..*form
     }
@@ -197,33 +207,49 @@ pub fn data_number(message: &[u8], lent: &Lent, point: u32) -> Call {
     }
 }
 
-pub fn place(g: &Grid, point: u32) -> Call {
-    let told = match rules::place_of(g.ni, g.nj, g.scan, point) {
-        None => [0, 0, 0],
-        Some((row, column)) => [1, row, column],
-    };
-    let mut asked = Octets::default();
-    asked.word(PLACE).grid(g).word(point);
-    Call {
-        what: format!("place of {point} on {} by {}, scan {}", g.ni, g.nj, g.scan),
-        asked: asked.0,
-        expected: Octets::default().words(&told).kept(),
-        reply: None,
-    }
+/// A grid of any numbers, and the number that its rows are handed over by.
+#[derive(Clone, Copy)]
+pub struct Chart {
+    pub grid: Grid,
+    pub rows: u8,
 }
 
-pub fn point(g: &Grid, row: u32, column: u32) -> Call {
-    let told = match rules::point_at(g.ni, g.nj, g.scan, row, column) {
-        None => [0, 0],
-        Some(point) => [1, point],
-    };
-    let mut asked = Octets::default();
-    asked.word(POINT).grid(g).words(&[row, column]);
-    Call {
-        what: format!("point at {row}, {column} on {} by {}, scan {}", g.ni, g.nj, g.scan),
-        asked: asked.0,
-        expected: Octets::default().words(&told).kept(),
-        reply: None,
+impl Chart {
+    pub fn of(grid: &Grid) -> Chart {
+        Chart { grid: *grid, rows: grid.rows.number() }
+    }
+
+    /// The call of a function of the chart on these words, which must answer those.
+    fn call(&self, function: u32, what: String, words: &[u32], told: &[u32]) -> Call {
+        let g = &self.grid;
+        let mut asked = Octets::default();
+        asked.word(function).grid_as(g, self.rows).words(words);
+        Call {
+            what: format!("{what} on {} by {}, scan {}, rows {}", g.ni, g.nj, g.scan, self.rows),
+            asked: asked.0,
+            expected: Octets::default().words(told).kept(),
+            reply: None,
+        }
+    }
+
+    pub fn place(&self, point: u32) -> Call {
+        let told = match rules::place_of(&self.grid, point) {
+            None => [0, 0, 0],
+            Some((row, column)) => [1, row, column],
+        };
+        self.call(PLACE, format!("place of {point}"), &[point], &told)
+    }
+
+    pub fn point(&self, row: u32, column: u32) -> Call {
+        let told = match rules::point_at(&self.grid, row, column) {
+            None => [0, 0],
+            Some(point) => [1, point],
+        };
+        self.call(POINT, format!("point at {row}, {column}"), &[row, column], &told)
+    }
+
+    pub fn row(&self, row: u32) -> Call {
+        self.call(ROW, format!("row {row}"), &[row], &[rules::points_in_row(&self.grid, row)])
     }
 }
 

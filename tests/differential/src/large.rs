@@ -1,12 +1,12 @@
-//! Fields of many points: every grid of the catalogue, the widest and the highest charts, bitmaps with whole octets of
-//! ones and of zeros, every N.
+//! Fields of many points: every grid of the catalogue, octants with their GDS, the widest and the highest charts,
+//! bitmaps with whole octets of ones and of zeros, every N.
 
-use crate::call::{self, Call, Kinds};
+use crate::call::{self, Call, Chart, Kinds};
 use second_reading::cases::Rng;
 use second_reading::grid::{from_catalogue, points};
-use second_reading::{write, BitmapKind, Form, Grid, Lent, Parts, Source};
+use second_reading::{points_in_row, write, BitmapKind, Form, Grid, Lent, Parts, Rows, Source};
 
-const CATALOGUE: [u8; 7] = [2, 3, 29, 30, 33, 34, 45];
+const CATALOGUE: [u8; 15] = [2, 3, 29, 30, 33, 34, 45, 37, 38, 39, 40, 41, 42, 43, 44];
 
 /// A PDS of a length, with a time that keeps the rules.
 fn pds(rng: &mut Rng, number: u8, has_grid: bool, has_bitmap: bool, d: i32) -> Vec<u8> {
@@ -42,6 +42,7 @@ fn wide_grid(rng: &mut Rng) -> Grid {
         di: rng.draw() as u16,
         dj: rng.draw() as u16,
         scan,
+        rows: Rows::Even,
     }
 }
 
@@ -90,9 +91,13 @@ fn stain(rng: &mut Rng, message: &mut [u8], header: &second_reading::Header) {
 pub fn calls(seed: u64, index: usize) -> Vec<Call> {
     let mut rng = Rng::new(seed ^ 0x1A46E ^ (index as u64) << 20);
     let rng = &mut rng;
-    let catalogued = index % 3 == 0;
-    let number = CATALOGUE[index / 3 % CATALOGUE.len()];
-    let grid = if catalogued { from_catalogue(number).expect("in the catalogue") } else { wide_grid(rng) };
+    let catalogued = index % 4 == 0;
+    let number = CATALOGUE[index / 4 % CATALOGUE.len()];
+    let grid = match index % 4 {
+        0 => from_catalogue(number).expect("in the catalogue"),
+        1 => from_catalogue(37 + (index / 4 % 8) as u8).expect("an octant"),
+        _ => wide_grid(rng),
+    };
     let n = points(&grid) as usize;
     let bitmap = rng.pick(&[BitmapKind::Without, BitmapKind::Carried, BitmapKind::Stored(7)]);
     let marks = if bitmap == BitmapKind::Without { vec![1; n] } else { stretches(rng, n) };
@@ -130,9 +135,31 @@ pub fn calls(seed: u64, index: usize) -> Vec<Call> {
     calls.push(call::read(&message, &lent, &lists.0[..n - 1], &lists.1));
     calls.push(call::bitmap(&message, &lent));
     calls.push(call::display(&message, &lent));
+    let chart = Chart::of(&grid);
     for point in [0, n / 2, n - 1, n] {
         calls.push(call::data_number(&message, &lent, point as u32));
-        calls.push(call::place(&grid, point as u32));
+        calls.push(chart.place(point as u32));
+    }
+    // every row of an octant: how many points it has, its ends, and what lies past them
+    if grid.rows != Rows::Even {
+        for row in 0..75 {
+            let count = points_in_row(&grid, row);
+            calls.push(chart.row(row));
+            for column in [0, count.saturating_sub(1), count] {
+                calls.push(chart.point(row, column));
+            }
+        }
+        calls.extend((0..n as u32 + 2).step_by(7).map(|point| chart.place(point)));
+    }
+    // each octet of an octant's GDS after its length, another one
+    if grid.rows != Rows::Even && !catalogued {
+        let gds = header.places.gds.start as usize;
+        for octet in gds + 3..gds + 178 {
+            let mut other = message.clone();
+            let (own, flipped) = (message[octet], message[octet] ^ 1 << rng.below(8));
+            other[octet] = rng.pick(&[own.wrapping_add(1), own.wrapping_sub(1), flipped]);
+            calls.push(call::header(&other, &lent).1);
+        }
     }
 
     // a source packed and checked

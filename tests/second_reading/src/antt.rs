@@ -2,10 +2,10 @@
 //! language's side may choose to change stands in this module alone.
 
 use crate::cases::{CheckCase, PackCase, ReadCase, WriteCase};
-use crate::grid::place_of;
+use crate::grid::{grid_outside_rules, place_of, points_in_row, to_gds};
 use crate::{
     bitmap_in_force, check, display, pack, read, section, write, BitmapKind, Form, Grid, Header,
-    Lent, Part, Parts, Source,
+    Lent, Part, Parts, Rows, Source,
 };
 
 /// The lines that every file begins with.
@@ -67,25 +67,29 @@ fn lent(lent: &Lent) -> String {
     )
 }
 
-fn shape(grid: &Grid) -> String {
-    format!(
-        "record {{ ni = {}; nj = {}; scan = {} }}",
-        grid.ni, grid.nj, grid.scan
-    )
-}
-
 fn grid(grid: &Grid) -> String {
-    format!(
-        "record {{ shape = {}; geometry = record {{ la1 = {}; lo1 = {}; flags = {}; la2 = {}; lo2 = {}; \
-         di = {}; dj = {} }} }}",
-        shape(grid),
-        value(grid.la1),
-        value(grid.lo1),
-        grid.flags,
+    let edges = format!(
+        "record {{ la2 = {}; lo2 = {}; di = {}; dj = {} }}",
         value(grid.la2),
         value(grid.lo2),
         grid.di,
         grid.dj
+    );
+    let thinned = |start| format!("Thinned (record {{ edges = {edges}; start = {start} }})");
+    let geometry = match grid.rows {
+        Rows::Even => format!("LatLon ({edges})"),
+        Rows::FromEquator => thinned("Equator"),
+        Rows::FromPole => thinned("Pole"),
+        Rows::Neither => thinned("Neither"),
+    };
+    format!(
+        "record {{ ni = {}; nj = {}; la1 = {}; lo1 = {}; flags = {}; scan = {}; geometry = {geometry} }}",
+        grid.ni,
+        grid.nj,
+        value(grid.la1),
+        value(grid.lo1),
+        grid.flags,
+        grid.scan
     )
 }
 
@@ -239,22 +243,46 @@ pub fn read_statements(k: usize, case: &ReadCase) -> (String, u32) {
         ),
         &list(0..7, |k| part(section(message, &case.lent, k))),
     );
-    if answer.reply == 0 {
-        let Grid { ni, nj, scan, .. } = answer.grid;
+    // What an octant's message says, though the lists are too short for it.
+    let own = crate::header(message, &case.lent);
+    if own != answer && own.grid.rows != Rows::Even {
+        text += &statement(
+            &format!("{name}-header"),
+            &format!("headerOf {s} {l}"),
+            &header(&own),
+        );
+    }
+    if own.reply == 0 {
+        let shape = format!("(shapeOf {})", given(&grid(&own.grid)));
+        let points = some_points(own.points);
         text += &statement(
             &format!("{name}-places"),
-            &format!(
-                "map (spotOn {}) {}",
-                given(&shape(&answer.grid)),
-                given(&list(0..answer.points, |point| point.to_string()))
-            ),
-            &list(0..answer.points, |point| {
-                let (row, column) = place_of(ni, nj, scan, point).expect("a point of the grid");
+            &format!("map (spotOn {shape}) {}", given(&naturals(&points))),
+            &list(points, |point| {
+                let (row, column) = place_of(&own.grid, point).expect("a point of the grid");
                 format!("record {{ row = {row}; column = {column} }}")
             }),
         );
+        let nj = own.grid.nj as u32;
+        let rows = [0, nj / 3, nj - 1, nj, nj + 1];
+        text += &statement(
+            &format!("{name}-rows"),
+            &format!("map (rowLong {shape}) {}", given(&naturals(&rows))),
+            &list(rows, |row| points_in_row(&own.grid, row).to_string()),
+        );
     }
     (text, answer.reply)
+}
+
+/// All points of a small grid; of a larger one the first and the last, and some
+/// between them.
+fn some_points(n: u32) -> Vec<u32> {
+    if n <= 64 {
+        return (0..n).collect();
+    }
+    let mut points: Vec<u32> = (0..16).map(|k| (n - 1) / 16 * k + k % 3).collect();
+    points.extend([n - 2, n - 1]);
+    points
 }
 
 /// The statements of a case for the writer, and its reply.
@@ -273,6 +301,15 @@ pub fn write_statements(k: usize, case: &WriteCase) -> (String, u32) {
         &format!("outputAfter {arguments}"),
         &octets(&out),
     );
+    // A message of an octant is too long to be stated: its GDS alone.
+    let octant = |given: &&Grid| given.rows != Rows::Even && !grid_outside_rules(given);
+    if let Some(own) = case.parts.form.grid.as_ref().filter(octant) {
+        text += &statement(
+            &format!("{name}-gds"),
+            &format!("gdsOf {}", given(&grid(own))),
+            &octets(&to_gds(own)),
+        );
+    }
     (text, outcome.0)
 }
 

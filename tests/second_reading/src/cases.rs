@@ -7,12 +7,12 @@
 
 use crate::bits::{bits_of_number, octets_of};
 use crate::check::whole_reference;
-use crate::grid::{from_catalogue, points};
+use crate::grid::{from_catalogue, points, to_gds};
 use crate::pack::reference_of;
 use crate::read::header;
 use crate::time::days_in;
 use crate::write::write;
-use crate::{BitmapKind, Form, Grid, Lent, Parts, Source};
+use crate::{BitmapKind, Form, Grid, Lent, Parts, Rows, Source};
 
 /// A small random number generator (splitmix64).
 pub struct Rng(u64);
@@ -93,11 +93,24 @@ pub struct PackCase {
 pub const READ_REPLIES: [u32; 13] = [1, 2, 3, 4, 5, 6, 7, 8, 9, 10, 11, 12, 14];
 pub const WRITE_REPLIES: [u32; 8] = [5, 6, 7, 9, 10, 11, 13, 14];
 pub const CHECK_REPLIES: [u32; 16] = [1, 2, 3, 4, 5, 6, 7, 8, 9, 10, 11, 12, 15, 16, 17, 18];
-/// What the checker's cases aim at: its own replies twice as often.
-const CHECK_AIMS: [u32; 20] = [
-    1, 2, 3, 15, 16, 17, 18, 4, 5, 6, 7, 8, 9, 15, 16, 17, 18, 10, 11, 12,
+/// What the checker's cases aim at: its own replies twice as often, and 6, whose
+/// damage is as often none.
+const CHECK_AIMS: [u32; 21] = [
+    1, 2, 3, 15, 16, 17, 18, 4, 5, 6, 7, 8, 9, 15, 16, 17, 18, 10, 11, 6, 12,
 ];
 pub const PACK_REPLIES: [u32; 11] = [5, 18, 15, 11, 19, 6, 7, 9, 10, 13, 14];
+
+/// How many points the fields of a case may have.
+#[derive(Clone, Copy, PartialEq, Eq)]
+pub enum Size {
+    /// At most 30.
+    Small,
+    /// Also thousands, seldom with a bitmap, of one bit each or none, and never with
+    /// a list of them: a proof can compute it.
+    Short,
+    /// At most 30, or an octant's 3,447 with bitmap, values and lists.
+    Whole,
+}
 
 /// What to do to a case.
 enum Plan {
@@ -246,7 +259,13 @@ fn sound_grid(rng: &mut Rng) -> Grid {
         di: rng.pick(&[any_di, 1_000, 65_535]),
         dj: rng.pick(&[any_dj, 1_000, 65_535]),
         scan,
+        rows: Rows::Even,
     }
+}
+
+/// One of the eight octants.
+fn some_octant(rng: &mut Rng) -> Grid {
+    from_catalogue(37 + rng.below(8) as u8).expect("an octant")
 }
 
 fn some_kind(rng: &mut Rng) -> BitmapKind {
@@ -315,17 +334,39 @@ fn some_d(rng: &mut Rng) -> i64 {
     rng.pick(&[small, small, small, 0, any, 32_767, -32_767])
 }
 
+/// How often a field is an octant's, in a hundred: more often where 8 and 9 are
+/// aimed at, which judge a GDS and a grid.
+fn octants_in_100(size: Size, aims: &[u32]) -> usize {
+    let judged = aims.contains(&8) || aims.contains(&9);
+    match size {
+        Size::Small => 0,
+        Size::Short => [8, 40][judged as usize],
+        Size::Whole => [6, 30][judged as usize],
+    }
+}
+
 /// A field for reading and writing; the kind of bitmap may be asked for.
-fn some_field(rng: &mut Rng, with_bitmap: bool) -> Field {
-    let grid = sound_grid(rng);
+fn some_field(rng: &mut Rng, with_bitmap: bool, size: Size, aims: &[u32]) -> Field {
+    let octant = rng.chance(octants_in_100(size, aims));
+    let grid = if octant {
+        some_octant(rng)
+    } else {
+        sound_grid(rng)
+    };
     let mut kind = some_kind(rng);
+    let mut bits = some_width(rng);
+    if octant && size == Size::Short {
+        bits = rng.pick(&[0, 0, 1]);
+        if rng.chance(95) {
+            kind = BitmapKind::Without;
+        }
+    }
     while with_bitmap && kind == BitmapKind::Without {
         kind = some_kind(rng);
     }
     let n = points(&grid) as usize;
     let marks = some_marks(rng, kind, n);
     let lent = some_lent(rng, kind, &marks);
-    let bits = some_width(rng);
     let top = (1u64 << bits) - 1;
     let values = marks
         .iter()
@@ -386,9 +427,9 @@ fn some_reference(rng: &mut Rng, number: i64) -> u32 {
 }
 
 /// A field with a source that passes the check against it.
-fn checkable(rng: &mut Rng, with_bitmap: bool) -> (Field, Source) {
+fn checkable(rng: &mut Rng, size: Size, aims: &[u32]) -> (Field, Source) {
     const BOUND: i64 = 8_388_607;
-    let mut field = some_field(rng, with_bitmap);
+    let mut field = some_field(rng, aims.contains(&10), size, aims);
     let d = some_d(rng);
     let any_e = rng.between(0, 24);
     let e = rng.pick(&[0, 0, 1, 2, 3, any_e, any_e, 23, 24]);
@@ -468,7 +509,10 @@ impl Draft {
 }
 
 fn gds_octets(rng: &mut Rng, grid: &Grid) -> Vec<u8> {
-    let mut gds = vec![0, 0, 32, 0, 255, 0];
+    let mut gds = match grid.rows {
+        Rows::Even => vec![0, 0, 32, 0, 255, 0],
+        _ => vec![0, 0, 178, 0, 33, 0],
+    };
     gds.extend(grid.ni.to_be_bytes());
     gds.extend(grid.nj.to_be_bytes());
     gds.extend(signed_octets(rng, grid.la1 as i64, 3));
@@ -481,6 +525,7 @@ fn gds_octets(rng: &mut Rng, grid: &Grid) -> Vec<u8> {
     gds.push(grid.scan);
     let reserved = rng.octets(4);
     gds.extend(if rng.chance(50) { vec![0; 4] } else { reserved });
+    gds.extend(&to_gds(grid)[32..]);
     gds
 }
 
@@ -543,7 +588,7 @@ fn draft_of(rng: &mut Rng, field: &Field) -> Draft {
     }
 }
 
-const CATALOGUED: [u8; 7] = [2, 3, 29, 30, 33, 34, 45];
+const CATALOGUED: [u8; 15] = [2, 3, 29, 30, 33, 34, 45, 37, 38, 39, 40, 41, 42, 43, 44];
 
 /// Turns a draft into one of many points with no bitmap and constant data: a
 /// catalogue grid or a large GDS grid.
@@ -558,6 +603,10 @@ fn widen(rng: &mut Rng, draft: &mut Draft) {
         draft.pds[6] = rng.pick(&CATALOGUED);
         draft.gds = None;
         draft.n = points(&from_catalogue(draft.pds[6]).expect("in the catalogue")) as usize;
+    } else if rng.chance(30) {
+        let grid = some_octant(rng);
+        draft.gds = Some(gds_octets(rng, &grid));
+        draft.n = points(&grid) as usize;
     } else if let Some(gds) = &mut draft.gds {
         let sizes = [
             (256, 256),
@@ -567,6 +616,8 @@ fn widen(rng: &mut Rng, draft: &mut Draft) {
             (255, 257),
         ];
         let (ni, nj): (u16, u16) = rng.pick(&sizes);
+        gds.truncate(32);
+        put(gds, 1, &[0, 0, 32, 0, 255]);
         put(gds, 7, &ni.to_be_bytes());
         put(gds, 9, &nj.to_be_bytes());
         put_latitudes(gds);
@@ -637,7 +688,7 @@ fn damage_time(rng: &mut Rng, pds: &mut [u8]) {
 fn uncatalogued(rng: &mut Rng) -> u8 {
     loop {
         let any = rng.octet();
-        let number = rng.pick(&[any, 0, 1, 4, 28, 31, 32, 35, 44, 46, 255]);
+        let number = rng.pick(&[any, 0, 1, 4, 28, 31, 32, 35, 36, 46, 255]);
         if !CATALOGUED.contains(&number) {
             return number;
         }
@@ -661,7 +712,7 @@ fn damage_lengths(rng: &mut Rng, draft: &mut Draft) {
         }
         3 => {
             if let Some(gds) = &mut draft.gds {
-                let length = rng.pick(&[0, 30, 31, 33, 34, 16_777_214]);
+                let length = rng.pick(&[0, 30, 31, 32, 33, 34, 176, 177, 178, 180, 16_777_214]);
                 put_length(gds, length);
             }
         }
@@ -709,7 +760,32 @@ fn damage_lengths(rng: &mut Rng, draft: &mut Draft) {
     }
 }
 
+/// Damages what 9 judges of a thinned GDS: a count, all of them, a field. Now and
+/// then the octets come out as another octant's, or as they were.
+fn damage_octant_octets(rng: &mut Rng, gds: &mut [u8]) {
+    let any = rng.below(73);
+    let count = 32 + 2 * rng.pick(&[0, 1, 71, 72, any, any, any]);
+    let other = to_gds(&some_octant(rng));
+    match rng.below(14) {
+        0 | 1 => gds[count + 1] = gds[count + 1].wrapping_add(1),
+        2 | 3 => gds[count + 1] = gds[count + 1].wrapping_sub(1),
+        4 => gds[count] ^= 1 << rng.below(8),
+        5 => gds.copy_within(32 + 2..178, 32),
+        6 => gds[32..].copy_from_slice(&other[32..]),
+        7 => put(gds, 11, &other[10..16]),
+        8 => put(gds, 18, &other[17..23]),
+        9 => put(gds, 7, &other[6..28]),
+        10 => gds[16] = rng.octet(),
+        11 => gds[27] = rng.pick(&[0, 64, 96, 192, 65]),
+        12 => put(gds, rng.pick(&[7, 9, 24, 26]), &rng.octets(2)),
+        _ => put(gds, 33, &[0, 74]),
+    }
+}
+
 fn damage_grid_octets(rng: &mut Rng, gds: &mut [u8]) {
+    if gds.len() == 178 && rng.chance(70) {
+        return damage_octant_octets(rng, gds);
+    }
     let high = rng.pick(&[0, 0x80]);
     let past_latitude = [high | 1, 0x5F, 0x91]; // 90,001
     let at_latitude = [high | 1, 0x5F, 0x90];
@@ -878,10 +954,13 @@ fn damage(rng: &mut Rng, draft: &mut Draft, reply: u32, large: bool) {
         8 => {
             if let Some(gds) = &mut draft.gds {
                 if rng.chance(30) {
-                    let more = rng.pick(&[2, 4, 6]);
-                    gds.extend(vec![0; more]);
-                    let length = gds.len();
+                    // Another length; the one of the other pair among them.
+                    let longer = gds.len() + rng.pick(&[2, 4, 6]);
+                    let length = rng.pick(&[longer, longer, 32, 176, 178, 180]);
+                    gds.resize(length, 0);
                     put_length(gds, length);
+                } else if rng.chance(30) {
+                    gds[4] = rng.pick(&[33, 255, 0, 32, 34]);
                 } else {
                     gds[3 + rng.below(3)] ^= 1 << rng.below(8);
                 }
@@ -965,18 +1044,18 @@ fn blind(rng: &mut Rng, message: &mut Vec<u8>, lent: &mut Lent) {
 // The four kinds of case
 // ---------------------------------------------------------------------------
 
-/// The case of a number for the reader. With `large` false no message of many
-/// points is taken.
-pub fn read_case(seed: u64, index: usize, large: bool) -> ReadCase {
+/// The case of a number for the reader.
+pub fn read_case(seed: u64, index: usize, size: Size) -> ReadCase {
     let mut rng = rng_for(seed, 1, index);
     let rng = &mut rng;
+    let large = size == Size::Short;
     let plan = plan(rng, index, &READ_REPLIES);
     let aims: Vec<u32> = match plan {
         Plan::Aimed(one) => vec![one],
         Plan::Twice(one, other) => vec![one, other],
         _ => Vec::new(),
     };
-    let field = some_field(rng, aims.contains(&10));
+    let field = some_field(rng, aims.contains(&10), size, &aims);
     let mut draft = draft_of(rng, &field);
     for &aim in &aims {
         damage(rng, &mut draft, aim, large);
@@ -991,7 +1070,7 @@ pub fn read_case(seed: u64, index: usize, large: bool) -> ReadCase {
     }
     // The lists are as long as needed, or longer, or (aiming at 14) shorter.
     let header = header(&message, &lent);
-    let n = if header.reply == 0 && header.points <= 64 {
+    let n = if header.reply == 0 && (header.points <= 64 || size == Size::Whole) {
         header.points as usize
     } else {
         rng.below(6)
@@ -1072,7 +1151,32 @@ fn damage_pds(rng: &mut Rng, pds: &mut Vec<u8>) {
     }
 }
 
+/// Damages what 9 judges of a grid given as thinned; or gives a rectangle as one,
+/// and an octant as a rectangle.
+fn damage_given_octant(rng: &mut Rng, grid: &mut Grid) {
+    let other = some_octant(rng);
+    match rng.below(10) {
+        0 => grid.ni = rng.pick(&[0, 73, 65_534]),
+        1 => grid.nj = rng.pick(&[0, 72, 74, 65_535]),
+        2 => grid.flags ^= 1 << rng.below(8),
+        3 => grid.scan ^= 1 << rng.below(8),
+        4 => grid.di = rng.pick(&[0, 1_250, 65_534]),
+        5 => grid.dj = rng.pick(&[0, 1_249, 1_251, 65_535]),
+        6 => (grid.la1, grid.la2) = (other.la1, other.la2),
+        7 => (grid.lo1, grid.lo2) = (other.lo1, other.lo2),
+        8 => grid.lo1 = grid.lo1.wrapping_sub(360_000),
+        _ => grid.rows = some_rows(rng),
+    }
+}
+
+fn some_rows(rng: &mut Rng) -> Rows {
+    rng.pick(&[Rows::Even, Rows::FromEquator, Rows::FromPole, Rows::Neither])
+}
+
 fn damage_given_grid(rng: &mut Rng, grid: &mut Grid) {
+    if rng.chance(if grid.rows == Rows::Even { 7 } else { 80 }) {
+        return damage_given_octant(rng, grid);
+    }
     let sign = rng.pick(&[1, -1]);
     match rng.below(14) {
         0 => grid.ni = 0,
@@ -1231,12 +1335,13 @@ fn blind_parts(rng: &mut Rng, parts: &mut Parts) {
         }
         3 => {
             if let Some(grid) = &mut parts.form.grid {
-                match rng.below(5) {
+                match rng.below(6) {
                     0 => grid.ni = rng.below(8) as u16,
                     1 => grid.nj = rng.below(8) as u16,
                     2 => grid.scan = rng.octet(),
                     3 => grid.la1 = rng.between(-100_000, 100_000) as i32,
-                    _ => grid.lo2 = rng.between(-400_000, 400_000) as i32,
+                    4 => grid.lo2 = rng.between(-400_000, 400_000) as i32,
+                    _ => grid.rows = some_rows(rng),
                 }
             }
         }
@@ -1262,8 +1367,17 @@ fn some_out(rng: &mut Rng, needed: Option<usize>, short: bool) -> Vec<u8> {
     (0..length).map(|k| (200 + k % 50) as u8).collect()
 }
 
+/// Lists of an octant cut to a few elements, where the case is to be short.
+fn shorten<A, B>(rng: &mut Rng, size: Size, one: &mut Vec<A>, other: &mut Vec<B>) {
+    if size == Size::Short && one.len() > 64 {
+        let few = 1 + rng.below(6);
+        one.truncate(few);
+        other.truncate(few);
+    }
+}
+
 /// The case of a number for the writer.
-pub fn write_case(seed: u64, index: usize) -> WriteCase {
+pub fn write_case(seed: u64, index: usize, size: Size) -> WriteCase {
     let mut rng = rng_for(seed, 2, index);
     let rng = &mut rng;
     let plan = plan(rng, index, &WRITE_REPLIES);
@@ -1272,8 +1386,9 @@ pub fn write_case(seed: u64, index: usize) -> WriteCase {
         Plan::Twice(one, other) => vec![one, other],
         _ => Vec::new(),
     };
-    let field = some_field(rng, false);
+    let field = some_field(rng, false, size, &aims);
     let mut parts = parts_of(&field);
+    shorten(rng, size, &mut parts.values, &mut parts.marks);
     for &aim in &aims {
         damage_parts(rng, &mut parts, aim);
     }
@@ -1332,22 +1447,23 @@ fn damage_source(rng: &mut Rng, source: &mut Source, reply: u32) {
     }
 }
 
-/// The case of a number for the checker. With `large` false no message of many
-/// points is judged.
-pub fn check_case(seed: u64, index: usize, large: bool) -> CheckCase {
+/// The case of a number for the checker.
+pub fn check_case(seed: u64, index: usize, size: Size) -> CheckCase {
     let mut rng = rng_for(seed, 3, index);
     let rng = &mut rng;
+    let large = size == Size::Short;
     let plan = plan(rng, index, &CHECK_AIMS);
     let aims: Vec<u32> = match plan {
         Plan::Aimed(one) => vec![one],
         Plan::Twice(one, other) => vec![one, other],
         _ => Vec::new(),
     };
-    let (mut field, mut source) = checkable(rng, aims.contains(&10));
+    let (mut field, mut source) = checkable(rng, size, &aims);
     while aims.contains(&17) && !field.marks.contains(&true) {
-        (field, source) = checkable(rng, aims.contains(&10));
+        (field, source) = checkable(rng, size, &aims);
     }
     let mut draft = draft_of(rng, &field);
+    shorten(rng, size, &mut source.numbers, &mut source.marks);
     for &aim in &aims {
         match aim {
             15 if large && rng.chance(10) && draft.pds.len() >= 28 => widen(rng, &mut draft),
@@ -1378,7 +1494,11 @@ pub fn check_case(seed: u64, index: usize, large: bool) -> CheckCase {
             }
             17 => {
                 // Out by half a step (taken), or by more.
-                let n = source.numbers.len().min(source.marks.len()).min(field.values.len());
+                let n = source
+                    .numbers
+                    .len()
+                    .min(source.marks.len())
+                    .min(field.values.len());
                 let present: Vec<usize> = (0..n).filter(|&k| source.marks[k] == 1).collect();
                 if !present.is_empty() {
                     let point = rng.pick(&present);
@@ -1408,7 +1528,7 @@ pub fn check_case(seed: u64, index: usize, large: bool) -> CheckCase {
 }
 
 /// The case of a number for the packer.
-pub fn pack_case(seed: u64, index: usize) -> PackCase {
+pub fn pack_case(seed: u64, index: usize, size: Size) -> PackCase {
     let mut rng = rng_for(seed, 4, index);
     let rng = &mut rng;
     let plan = plan(rng, index, &PACK_REPLIES);
@@ -1417,11 +1537,12 @@ pub fn pack_case(seed: u64, index: usize) -> PackCase {
         Plan::Twice(one, other) => vec![one, other],
         _ => Vec::new(),
     };
-    let field = some_field(rng, false);
+    let field = some_field(rng, false, size, &aims);
     let d = some_d(rng);
     let pds = sound_pds(rng, d, true, field.kind != BitmapKind::Without);
     let mut parts = parts_of(&field);
     parts.pds = pds;
+    shorten(rng, size, &mut parts.values, &mut parts.marks);
 
     // Source numbers near one another, or far apart.
     let bound = 8_388_607;

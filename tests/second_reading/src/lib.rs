@@ -1,10 +1,11 @@
 //! A second reading of the rules.
 //!
 //! This package computes, slowly and literally, what document 01 ("Definition
-//! of the build and its rules") says a GRIB Edition 1 codec must answer. It was
-//! written from document 01 alone, with the list of open points deciding where
-//! the document leaves room for two readings. It shares nothing with the codec
-//! it is used to test: no code, no constants, no tricks. Wherever a person with
+//! of the build and its rules") says a GRIB Edition 1 codec must answer, and
+//! what the requests of document 02 that have landed add to it (R-1). It was
+//! written from these documents alone, with the list of open points deciding
+//! where they leave room for two readings. It shares nothing with the codec it
+//! is used to test: no code, no constants, no tricks. Wherever a person with
 //! paper and pencil would write out bits, the code here writes out bits.
 //!
 //! The modules follow the document:
@@ -40,7 +41,7 @@ pub mod write;
 
 pub use check::check;
 pub use display::display;
-pub use grid::{place_of, point_at};
+pub use grid::{place_of, point_at, points_in_row};
 pub use list::listing;
 pub use pack::pack;
 pub use read::{bitmap_in_force, data_number, header, read, section};
@@ -73,6 +74,33 @@ pub struct Time {
     pub minute: u32,
 }
 
+/// How many points each row of a grid has, in message order.
+#[derive(Clone, Copy, PartialEq, Eq, Debug, Default)]
+pub enum Rows {
+    /// Every row has Ni: a rectangle.
+    #[default]
+    Even,
+    /// Thinned: document 003's counts, the equator's first.
+    FromEquator,
+    /// Thinned: the same counts, the pole's first.
+    FromPole,
+    /// Thinned, with counts that no octant has. 9 refuses it; it has no rows and
+    /// no points.
+    Neither,
+}
+
+impl Rows {
+    /// The number that stands for it where a grid is handed over as numbers.
+    pub fn number(self) -> u8 {
+        match self {
+            Rows::Even => 0,
+            Rows::FromEquator => 1,
+            Rows::FromPole => 2,
+            Rows::Neither => 3,
+        }
+    }
+}
+
 /// The numbers of a latitude/longitude grid.
 #[derive(Clone, Copy, PartialEq, Eq, Debug, Default)]
 pub struct Grid {
@@ -86,6 +114,7 @@ pub struct Grid {
     pub di: u16,
     pub dj: u16,
     pub scan: u8,
+    pub rows: Rows,
 }
 
 /// No bitmap, one carried in the message, or a stored one with its number.

@@ -1,7 +1,8 @@
 //! The listing program.
 
-use crate::grid::layout;
+use crate::grid::{layout, points_in_row};
 use crate::read::read;
+use crate::Rows;
 
 /// The listing program's whole output for what it finds on standard input.
 /// Every line ends with a newline.
@@ -19,24 +20,22 @@ pub fn listing(input: &[u8]) -> String {
     if header.reply != 0 {
         return format!("refused {}\n", header.reply);
     }
+    // R-1: "The listing's columns are then 0."
+    let columns = match header.grid.rows {
+        Rows::Even => header.grid.ni,
+        _ => 0,
+    };
     // "Line 1: points, present, columns, rows, D, E, R as eight hex digits, N."
     let mut text = format!(
-        "{} {} {} {} {} {} {:08x} {}\n",
-        header.points,
-        header.present,
-        header.grid.ni,
-        header.grid.nj,
-        header.d,
-        header.e,
-        header.r,
-        header.bits
+        "{} {} {columns} {} {} {} {:08x} {}\n",
+        header.points, header.present, header.grid.nj, header.d, header.e, header.r, header.bits
     );
     // "Then a line per chart row from north, X per column, `-` for absent. One
     // space stands between fields."
-    let (columns, rows) = (header.grid.ni as usize, header.grid.nj as usize);
-    let mut chart = vec![vec![String::new(); columns]; rows];
-    let places = layout(header.grid.ni, header.grid.nj, header.grid.scan);
-    for (point, &(row, column)) in places.iter().enumerate() {
+    let mut chart: Vec<Vec<String>> = (0..header.grid.nj as u32)
+        .map(|row| vec![String::new(); points_in_row(&header.grid, row) as usize])
+        .collect();
+    for (point, &(row, column)) in layout(&header.grid).iter().enumerate() {
         chart[row as usize][column as usize] = if marks[point] == 1 {
             values[point].to_string()
         } else {

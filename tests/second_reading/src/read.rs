@@ -139,13 +139,15 @@ fn row_7(message: &[u8]) -> bool {
 }
 
 /// 8: "GDS length or octets 4 to 6 not as above": "length 1-3 is 32; octet 4 is
-/// 0; octet 5 is 255; octet 6 is 0".
+/// 0; octet 5 is 255; octet 6 is 0". R-1: "The GDS is 178 octets, octet 5 is 33",
+/// "8 admits this length and octet 5".
 fn row_8(message: &[u8]) -> bool {
     if !has_gds(message) {
         return false;
     }
     let gds = gds(message);
-    gds.len() != 32 || octet(gds, 4) != 0 || octet(gds, 5) != 255 || octet(gds, 6) != 0
+    let admitted = matches!((gds.len(), octet(gds, 5)), (32, 255) | (178, 33));
+    !admitted || octet(gds, 4) != 0 || octet(gds, 6) != 0
 }
 
 /// "With one, the GDS decides and octet 7 is not compared."

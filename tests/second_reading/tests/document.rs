@@ -1,4 +1,5 @@
-//! Every example that document 01 gives, and the cases at each edge.
+//! Every example that document 01 gives, and the cases at each edge; and what R-1
+//! of document 02 says of thinned octants.
 
 use second_reading::*;
 
@@ -38,6 +39,7 @@ fn specimen_grid() -> Grid {
         di: 1_000,
         dj: 1_000,
         scan: 64,
+        rows: Rows::Even,
     }
 }
 
@@ -443,6 +445,125 @@ fn a_catalogue_grid() {
     assert_eq!(taken.grid.la1, -90_000);
     message[8 + 6] = 31;
     assert_eq!(header(&message, &none()).reply, 7);
+}
+
+/// A message of an octant by hand, with N = 0: 230 octets, the GDS from 36 on, the
+/// data section from 214.
+fn octant_37() -> Vec<u8> {
+    let mut message = specimen()[..36].to_vec();
+    message[8 + 7] = 0x80;
+    message.extend(from_hex(
+        "0000B2 00 21 00 FFFF 0049 000000 050910 80 015F90 00EA60 FFFF 04E2 40 00000000
+         0049 0049 0049 0049 0049 0049 0049 0049 0048 0048 0048 0047 0047 0047 0046 0046
+         0045 0045 0044 0043 0043 0042 0041 0041 0040 003F 003E 003D 003C 003C 003B 003A
+         0039 0038 0037 0036 0034 0033 0032 0031 0030 002F 002D 002C 002B 002A 0028 0027
+         0026 0024 0023 0021 0020 001E 001D 001C 001A 0019 0017 0016 0014 0013 0011 0010
+         000E 000C 000B 0009 0008 0006 0005 0003 0002",
+    ));
+    message.extend(from_hex("00000C 08 0000 00000000 00 00 37373737"));
+    message[6] = message.len() as u8;
+    message
+}
+
+#[test]
+fn an_octant_is_read_and_written() {
+    let message = octant_37();
+    assert_eq!(message.len(), 230);
+    let taken = header(&message, &none());
+    assert_eq!(
+        (taken.reply, taken.points, taken.present),
+        (0, 3_447, 3_447)
+    );
+    assert_eq!(
+        taken.places.gds,
+        Part {
+            start: 36,
+            len: 178
+        }
+    );
+    let grid = Grid {
+        ni: 65_535,
+        nj: 73,
+        la1: 0,
+        lo1: 330_000,
+        flags: 128,
+        la2: 90_000,
+        lo2: 60_000,
+        di: 65_535,
+        dj: 1_250,
+        scan: 64,
+        rows: Rows::FromEquator,
+    };
+    assert_eq!(taken.grid, grid);
+    let mut out = [0xAA; 232];
+    let mut parts = again::parts_of(&message, &none());
+    assert_eq!(write(&parts, &mut out), (0, 230));
+    assert_eq!(out[..230], message[..]);
+    assert_eq!(out[230..], [0xAA, 0xAA]);
+    // Without the GDS: PDS octet 7.
+    parts.form.grid = None;
+    parts.pds[6] = 37;
+    parts.pds[7] = 0;
+    assert_eq!(write(&parts, &mut out), (0, 52));
+    assert_eq!(header(&out[..52], &none()).grid, grid);
+    // Lists of another length, and too little room.
+    parts.values.pop();
+    assert_eq!(write(&parts, &mut out).0, 13);
+    let mut lists = (vec![5; 3_446], vec![5; 3_447]);
+    let reply = read(&message, 0, &[], &mut lists.0, &mut lists.1).reply;
+    assert_eq!(reply, 14);
+}
+
+#[test]
+fn an_octant_is_refused_by_8_and_9() {
+    let reply = |octet: usize, value: u8| {
+        let mut message = octant_37();
+        message[36 + octet - 1] = value;
+        header(&message, &none()).reply
+    };
+    assert_eq!(reply(4, 255), 8);
+    assert_eq!(reply(5, 255), 8);
+    assert_eq!(reply(6, 1), 8);
+    for octet in (7..=28).filter(|&octet| octet != 11) {
+        assert_eq!(reply(octet, 0x55), 9, "octet {octet}");
+    }
+    // Minus zero is 0, and 29-32 are reserved.
+    assert_eq!(reply(11, 0x80), 0);
+    for octet in 29..=32 {
+        assert_eq!(reply(octet, 0x55), 0, "octet {octet}");
+    }
+    for octet in 33..=178 {
+        assert_eq!(reply(octet, 0x55), 9, "octet {octet}");
+    }
+    // 74 points at the equator, as document 003's formula would have it.
+    assert_eq!(reply(34, 74), 9);
+}
+
+#[test]
+fn an_octant_is_listed() {
+    // Each row's own number from north, in 7 bits: the last row comes first.
+    let counts: Vec<usize> = octant_37()[68..214]
+        .chunks(2)
+        .map(|two| two[1] as usize)
+        .collect();
+    let mut parts = again::parts_of(&octant_37(), &none());
+    parts.form.bits = 7;
+    parts.values.clear();
+    for (row, &count) in counts.iter().enumerate() {
+        parts.values.extend(vec![72 - row as u32; count]);
+    }
+    let mut out = vec![0; 4_000];
+    let (_, length) = write(&parts, &mut out);
+    let text = listing(&out[..length as usize]);
+    let lines: Vec<&str> = text.lines().collect();
+    // "The listing's columns are then 0."
+    assert_eq!(lines[0], "3447 3447 0 73 1 0 00000000 7");
+    assert_eq!(lines[1..4], ["0 0", "1 1 1", "2 2 2 2 2"]);
+    assert_eq!(lines.len(), 74);
+    for (row, line) in lines[1..].iter().enumerate() {
+        let own = vec![row.to_string(); counts[72 - row]];
+        assert_eq!(*line, own.join(" "));
+    }
 }
 
 #[test]

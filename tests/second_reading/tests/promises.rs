@@ -6,7 +6,12 @@ use second_reading::again::{cleaned, parts_of};
 use second_reading::cases::*;
 use second_reading::*;
 
-const SEEDS: [u64; 3] = [1, 2, 3];
+const SEEDS: [(u64, Size); 4] = [
+    (1, Size::Short),
+    (2, Size::Short),
+    (3, Size::Whole),
+    (4, Size::Whole),
+];
 const COUNT: usize = 1_500;
 
 fn written(parts: &Parts) -> Vec<u8> {
@@ -20,9 +25,9 @@ fn written(parts: &Parts) -> Vec<u8> {
 #[test]
 fn reading() {
     let mut same = 0;
-    for seed in SEEDS {
+    for (seed, size) in SEEDS {
         for k in 0..COUNT {
-            let case = read_case(seed, k, true);
+            let case = read_case(seed, k, size);
             let (mut values, mut marks) = (case.values.clone(), case.marks.clone());
             let Lent { number, octets } = &case.lent;
             let header = read(&case.message, *number, octets, &mut values, &mut marks);
@@ -67,9 +72,9 @@ fn reading() {
 
 #[test]
 fn writing() {
-    for seed in SEEDS {
+    for (seed, size) in SEEDS {
         for k in 0..COUNT {
-            let case = write_case(seed, k);
+            let case = write_case(seed, k, size);
             let mut out = case.out.clone();
             let (reply, length) = write(&case.parts, &mut out);
             let length = length as usize;
@@ -86,9 +91,9 @@ fn writing() {
 
 #[test]
 fn packing() {
-    for seed in SEEDS {
+    for (seed, size) in SEEDS {
         for k in 0..COUNT {
-            let case = pack_case(seed, k);
+            let case = pack_case(seed, k, size);
             let mut out = case.out.clone();
             let (reply, length) = pack(&case.pds, &case.form, &case.lent, &case.source, &mut out);
             let length = length as usize;
@@ -105,9 +110,9 @@ fn packing() {
 
 #[test]
 fn checking_agrees_with_reading() {
-    for seed in SEEDS {
+    for (seed, size) in SEEDS {
         for k in 0..COUNT {
-            let case = check_case(seed, k, true);
+            let case = check_case(seed, k, size);
             let Source { numbers, marks, d } = &case.source;
             let reply = check(&case.message, &case.lent, numbers, marks, *d);
             let read_reply = header(&case.message, &case.lent).reply;
@@ -133,16 +138,16 @@ fn enough(histogram: &Histogram, replies: &[u32], least: usize) {
 #[test]
 fn every_reply_occurs() {
     for seed in 1..=5 {
-        for large in [false, true] {
+        for size in [Size::Small, Size::Short] {
             let mut replies: [Histogram; 4] = Default::default();
             for k in 0..400 {
-                let (_, reply) = antt::read_statements(k, &read_case(seed, k, large));
+                let (_, reply) = antt::read_statements(k, &read_case(seed, k, size));
                 replies[0].count(reply);
-                let (_, reply) = antt::write_statements(k, &write_case(seed, k));
+                let (_, reply) = antt::write_statements(k, &write_case(seed, k, size));
                 replies[1].count(reply);
-                let (_, reply) = antt::check_statements(k, &check_case(seed, k, large));
+                let (_, reply) = antt::check_statements(k, &check_case(seed, k, size));
                 replies[2].count(reply);
-                let (_, reply) = antt::pack_statements(k, &pack_case(seed, k));
+                let (_, reply) = antt::pack_statements(k, &pack_case(seed, k, size));
                 replies[3].count(reply);
             }
             enough(&replies[0], &READ_REPLIES, 3);

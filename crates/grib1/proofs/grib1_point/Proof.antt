@@ -4,7 +4,20 @@ use Rattle.grib1.proofs.grib1_point.Statement.{statement}
 use Rattle.grib1.proofs.grib1_point.Tie as tie
 
 returns : tie.Need-returns
-returns c = rw (c .point-record .ensures, c .before .point-at .ensures)
+returns c =
+    rw (
+      c .point-record .ensures,
+      c .before .point-at .ensures,
+      c .before .before .shape-of .ensures,
+      c .before .before .before .grid-back .ensures,
+    )
 
 pub grib1-point-spec : {M : Type 1} → statement M
-grib1-point-spec = tie.close (tie.spec (λ c κs. search needs) (λ c κs. search needs) returns)
+grib1-point-spec =
+    tie.close
+    (tie.spec
+    (λ c κs. search needs)
+    (λ c κs. search needs)
+    (λ c κs. search needs)
+    (λ c κs. search needs)
+    returns)

@@ -1,23 +1,23 @@
--- Refusal 9: the list of tests opened, call by call.
-use Rattle.rules.specs.Grid.{gridFaults, scanBad}
-use Rattle.rules.specs.Table.{anyOf, orAll}
+-- The geometry's two cases (law faults-by).
+use mathlib.Core.Path.{sym, _∙_}
+use Rattle.laws.proofs.Grids.{faults-by}
 use borrow.Author.Needs.{needs}
 use Rattle.grid.proofs.grid_bad.Statement.{statement}
 use Rattle.grid.proofs.grid_bad.Tie as tie
 
 returns : tie.Need-returns
-unfolding anyOf orAll gridFaults scanBad
-returns c = rw (
-  c .scan-bad .ensures,
-  c .before .longitude-bad2 .ensures,
-  c .before .before .longitude-bad .ensures,
-  c .before .before .before .latitude-bad2 .ensures,
-  c .before .before .before .before .latitude-bad .ensures,
-  c .before .before .before .before .before .shape-bad .ensures,
-)
+returns c = c .latlon-bad .ensures ∙ sym (faults-by _ _ (c .before .before .x .given .1))
+
+returns-2 : tie.Need-returns-2
+returns-2 c = c .thinned-bad .ensures ∙ sym (faults-by _ _ (c .before .before .x2 .given .1))
 
 pub grid-bad-spec : {M : Type 1} → statement M
 grid-bad-spec =
     tie.close
-    (tie.spec (λ c κs. search needs) (λ c κs. search needs) (λ c κs. search needs) (λ c κs. search needs)
-    (λ c κs. search needs) (λ c κs. search needs) returns)
+    (tie.spec
+    (λ c. search needs)
+    (λ c κs. search needs)
+    (λ c. search needs)
+    (λ c κs. search needs)
+    returns
+    returns-2)

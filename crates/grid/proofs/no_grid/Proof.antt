@@ -9,4 +9,8 @@ unfolding noGrid
 returns c = rw (c .plain .ensures) (search needs)
 
 pub no-grid-spec : {M : Type 1} → statement M
-no-grid-spec = tie.close (tie.spec (λ c κs. search needs) returns)
+no-grid-spec =
+    tie.close
+    (tie.spec
+    (λ c κs. search needs)
+    returns)

@@ -11,8 +11,8 @@ returns c =
     let n = c .before .before .before .before .before .before in
     let p = n .counts .ensures in
     let q = c .before .before .scales .ensures in (
-      first-done _ _ _ (n .before .before .before .before .before .before .args .h) _ _
-          (n .before .before .columns-on .ensures) (n .before .rows-on .ensures)
+      first-done _ _ _ (n .before .before .before .before .before .before .args .h) _ _ _
+          (n .before .before .before .before .shape-of .ensures) (n .before .before .columns-on .ensures) (n .before .rows-on .ensures)
           (wrote-next (p .0) (q .0) (omega (arith, p .1, q .1))),
       omega (arith, p .1, q .1),
     )
@@ -21,4 +21,4 @@ pub first-line-spec : {M : Type 1} → statement M
 first-line-spec =
     tie.close
     (tie.spec (λ c κs. search needs) (λ c κs. search needs) (λ c κs. search needs) (λ c κs. search needs)
-    (λ c. search needs) returns)
+    (λ c κs. search needs) (λ c. search needs) returns)

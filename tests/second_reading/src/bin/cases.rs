@@ -3,14 +3,14 @@
 //! of a catalogue grid or another grid of many points is taken.
 
 use second_reading::antt;
-use second_reading::cases::{check_case, pack_case, read_case, write_case, Histogram};
+use second_reading::cases::{check_case, pack_case, read_case, write_case, Histogram, Size};
 use std::process::ExitCode;
 
 struct Asked {
     seed: u64,
     count: usize,
     out: String,
-    large: bool,
+    size: Size,
 }
 
 fn asked() -> Option<Asked> {
@@ -18,7 +18,7 @@ fn asked() -> Option<Asked> {
         seed: 1,
         count: 100,
         out: String::new(),
-        large: true,
+        size: Size::Short,
     };
     let mut words = std::env::args().skip(1);
     while let Some(word) = words.next() {
@@ -26,7 +26,7 @@ fn asked() -> Option<Asked> {
             "--seed" => asked.seed = words.next()?.parse().ok()?,
             "--count" => asked.count = words.next()?.parse().ok()?,
             "--out" => asked.out = words.next()?,
-            "--small" => asked.large = false,
+            "--small" => asked.size = Size::Small,
             _ => return None,
         }
     }
@@ -52,18 +52,18 @@ fn file(
 
 fn run(asked: &Asked) -> std::io::Result<()> {
     std::fs::create_dir_all(&asked.out)?;
-    let (seed, large) = (asked.seed, asked.large);
+    let (seed, size) = (asked.seed, asked.size);
     file(asked, "read", |k| {
-        antt::read_statements(k, &read_case(seed, k, large))
+        antt::read_statements(k, &read_case(seed, k, size))
     })?;
     file(asked, "write", |k| {
-        antt::write_statements(k, &write_case(seed, k))
+        antt::write_statements(k, &write_case(seed, k, size))
     })?;
     file(asked, "check", |k| {
-        antt::check_statements(k, &check_case(seed, k, large))
+        antt::check_statements(k, &check_case(seed, k, size))
     })?;
     file(asked, "pack", |k| {
-        antt::pack_statements(k, &pack_case(seed, k))
+        antt::pack_statements(k, &pack_case(seed, k, size))
     })
 }
 

@@ -7,7 +7,8 @@
 //! that the listing is a refusal by N, and any other name that it is none.
 
 use second_reading::cases::Rng;
-use second_reading::{listing, write, BitmapKind, Form, Grid, Parts};
+use second_reading::grid::from_catalogue;
+use second_reading::{listing, place_of, write, BitmapKind, Form, Grid, Parts, Rows};
 use std::process::ExitCode;
 
 /// A PDS of so many octets that keeps the rules, with D.
@@ -45,6 +46,7 @@ fn grid(ni: u16, nj: u16, scan: u8) -> Grid {
         di: 1_000,
         dj: 65_535,
         scan,
+        rows: Rows::Even,
     }
 }
 
@@ -127,6 +129,20 @@ fn catalogued() -> Vec<u8> {
     listed.pds[6] = 29;
     listed.pds[7] = 0;
     message(&listed)
+}
+
+/// The octant of this number, 100 times the chart row and the position in it at
+/// each point; absent where the position is a multiple of `gap` and 3 more.
+fn octant(number: u8, gap: Option<u32>) -> Parts {
+    let grid = from_catalogue(number).expect("an octant");
+    let points: Vec<Option<u32>> = (0..3_447)
+        .map(|point| {
+            let (row, position) = place_of(&grid, point).expect("one of its points");
+            let absent = gap.is_some_and(|gap| position % gap == 3);
+            (!absent).then_some(100 * row + position)
+        })
+        .collect();
+    parts(2, grid, -1, 0x4110_0000, 13, &points)
 }
 
 /// A message of so many octets: one octet for each value, more points than the
@@ -226,6 +242,41 @@ fn cases() -> Vec<(String, Vec<u8>)> {
         message(&parts(0, grid(17, 241, 0), 0, 0, 0, &[Some(0); 4_097])),
     );
     case("refused_14_catalogue", catalogued());
+
+    // thinned octants: no columns, and each chart row with its own count
+    case("octant_37", message(&octant(37, None)));
+    case("octant_41", message(&octant(41, None)));
+    case("octant_39_bitmap", message(&octant(39, Some(7))));
+    for number in [40, 44] {
+        case(&format!("octant_{number}_catalogue"), {
+            let mut listed = octant(number, None);
+            listed.form.grid = None;
+            listed.pds[6] = number;
+            listed.pds[7] = 0;
+            message(&listed)
+        });
+    }
+    case("octant_42_catalogue_bitmap", {
+        let mut listed = octant(42, Some(5));
+        listed.form.grid = None;
+        listed.pds[6] = 42;
+        listed.pds[7] = 64;
+        message(&listed)
+    });
+    let with = |octet: usize, value: u8| {
+        let mut octets = message(&octant(37, None));
+        octets[octet - 1] = value;
+        octets
+    };
+    case("refused_8_octant", with(gds + 4, 255));
+    // 74 points at the equator
+    case("refused_9_octant", with(gds + 33, 74));
+    case("refused_12_octant", {
+        // without a bitmap section the data section starts 178 octets after
+        let mut octets = message(&octant(37, None));
+        octets[gds - 1 + 178 + 10] = 12;
+        octets
+    });
 
     // 32,685 and 32,687 values of one octet; then an octet after a message
     case("refused_14_octets_32768", long(32_768, 15, 2_179));

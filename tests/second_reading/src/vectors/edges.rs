@@ -141,4 +141,4 @@ pub const COUNTS: [(u32, u16, u16); 26] = [
 ];
 
 /// 7: numbers that the catalogue does not have.
-pub const NOT_LISTED: [u8; 15] = [0, 1, 4, 5, 21, 28, 31, 32, 35, 37, 44, 46, 130, 254, 255];
+pub const NOT_LISTED: [u8; 15] = [0, 1, 4, 5, 21, 28, 31, 32, 35, 36, 46, 47, 130, 254, 255];

@@ -71,7 +71,7 @@ pub struct Record<'a> {
 }
 
 impl Record<'_> {
-    /// The name's length and the name; 50 octets of fields; the lists.
+    /// The name's length and the name; 51 octets of fields; the lists.
     pub fn file(&self) -> Vec<u8> {
         let grid = self.form.grid.unwrap_or_default();
         let (kind, number) = match self.form.bitmap {
@@ -98,9 +98,10 @@ impl Record<'_> {
             &signed(self.d),
             &self.lent.number.to_be_bytes(),
             &three(self.room),
+            &[grid.rows.number()],
         ]
         .concat();
-        assert_eq!(fields.len(), 50);
+        assert_eq!(fields.len(), 51);
         assert!(self.room <= 262_145 && self.octets.len() <= 262_145);
         assert!(self.lent.octets.len() <= 8_193 && self.marks.len() <= 65_537);
         let numbers = match self.numbers {

@@ -2,7 +2,7 @@
 //! octets, a grid in numbers, lists.
 
 use super::messages::{bits, hex, octets, set, set_length, specimen as specimen_octets};
-use crate::{BitmapKind, Form, Grid, Lent, Parts};
+use crate::{BitmapKind, Form, Grid, Lent, Parts, Rows};
 
 /// The specimen's PDS; octet 8 says which sections there are.
 pub fn pds(octet_8: u8) -> Vec<u8> {
@@ -33,6 +33,7 @@ pub fn grid(ni: u16, nj: u16) -> Grid {
         di: 1_000,
         dj: 1_000,
         scan: 64,
+        rows: Rows::Even,
     }
 }
 
@@ -96,11 +97,15 @@ pub fn plain() -> Parts {
     })
 }
 
-/// This grid, every point present and N = 0.
+/// This rectangle, every point present and N = 0.
 pub fn flat(grid: Grid) -> Parts {
     let points = grid.ni as usize * grid.nj as usize;
     // a grid of too many points is refused before its lists are looked at
-    let points = if points > 65_536 { 4 } else { points };
+    flat_of(grid, if points > 65_536 { 4 } else { points })
+}
+
+/// This grid, so many points, every one present, and N = 0.
+pub fn flat_of(grid: Grid, points: usize) -> Parts {
     Parts {
         form: Form {
             grid: Some(grid),
@@ -125,8 +130,8 @@ pub fn listed(number: u8, points: usize) -> Parts {
 }
 
 /// The catalogue's numbers and how many points their grids have: 144 x 73, 360 x
-/// 181, 145 x 37 twice, 181 x 46 twice, 288 x 145.
-pub const LISTED: [(u8, usize); 7] = [
+/// 181, 145 x 37 twice, 181 x 46 twice, 288 x 145; and the eight octants.
+pub const LISTED: [(u8, usize); 15] = [
     (2, 10_512),
     (3, 65_160),
     (29, 5_365),
@@ -134,6 +139,14 @@ pub const LISTED: [(u8, usize); 7] = [
     (33, 8_326),
     (34, 8_326),
     (45, 41_760),
+    (37, 3_447),
+    (38, 3_447),
+    (39, 3_447),
+    (40, 3_447),
+    (41, 3_447),
+    (42, 3_447),
+    (43, 3_447),
+    (44, 3_447),
 ];
 
 /// A row of points with these values, nothing where absent.

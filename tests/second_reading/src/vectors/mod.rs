@@ -1,5 +1,5 @@
 //! Vectors: what to read, write, check and pack at each edge of the rules, each
-//! with the reply that document 01 gives it.
+//! with the reply that document 01 gives it, or a request of document 02.
 //!
 //! Messages and parts are put together here in the terms of document 01, and
 //! every reply is written by hand in a table. Nothing that reads, writes, checks
@@ -10,6 +10,7 @@
 //! * `read`, `write`, `check`, `pack`  the four tables;
 //! * `messages`  messages, octet by octet;
 //! * `edges`     edges that more than one table has;
+//! * `octants`   the thinned octants, grids 37 to 44;
 //! * `given`     what the writer and the packer are given;
 //! * `files`     the files that the programs are run on.
 
@@ -18,6 +19,7 @@ mod edges;
 mod files;
 mod given;
 mod messages;
+mod octants;
 pub mod pack;
 pub mod read;
 pub mod write;

@@ -1,7 +1,7 @@
 -- A BDS's fields, one after another (laws put and put-signed).
 use native.Mathlib.Omega.{arith}
 use Prim.Native.Nat.{_-_}
-use Rattle.framing.proofs.Placing.{laid-none, put, put-signed}
+use Rattle.puts.proofs.Laying.{laid-none, put, put-signed}
 use borrow.Author.Needs.{needs}
 use Rattle.framing.proofs.laying.put_bds.Statement.{statement}
 use Rattle.framing.proofs.laying.put_bds.Tie as tie

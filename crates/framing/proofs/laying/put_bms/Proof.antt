@@ -1,7 +1,7 @@
 -- A BMS's fields, one after another (law put).
 use native.Mathlib.Omega.{arith}
 use Prim.Native.Nat.{_-_}
-use Rattle.framing.proofs.Placing.{laid-none, put}
+use Rattle.puts.proofs.Laying.{laid-none, put}
 use borrow.Author.Needs.{needs}
 use Rattle.framing.proofs.laying.put_bms.Statement.{statement}
 use Rattle.framing.proofs.laying.put_bms.Tie as tie

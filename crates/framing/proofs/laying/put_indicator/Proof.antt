@@ -1,5 +1,5 @@
 -- The indicator's fields, one after another (law put).
-use Rattle.framing.proofs.Placing.{laid-none, put}
+use Rattle.puts.proofs.Laying.{laid-none, put}
 use native.Mathlib.Omega.{arith}
 use Prim.Native.Nat.{_-_}
 use borrow.Author.Needs.{needs}

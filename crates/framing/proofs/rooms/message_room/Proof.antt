@@ -2,7 +2,7 @@
 use native.Mathlib.Omega.{arith}
 use Prim.Native.Nat.{_-_}
 use Rattle.framing.specs.Layout.{frontRoom, messageRoom}
-use Rattle.framing.proofs.Lengths.{gds-few, bms-few, bds-few}
+use Rattle.framing.proofs.Lengths.{gds-few, gds-room, bms-few, bds-few}
 use borrow.Author.Needs.{needs}
 use Rattle.framing.proofs.rooms.message_room.Statement.{statement}
 use Rattle.framing.proofs.rooms.message_room.Tie as tie
@@ -11,6 +11,7 @@ add-result : tie.Need-add-result
 add-result c =
     let a = c .before .before .args in
     let g = gds-few (a .form .grid) in
+    let e = gds-room (a .form .grid) in
     let b = bms-few (a .form .bitmap) (a .n) (omega arith) in
     let d = bds-few (a .form .packing .bits) (a .m) (omega arith) (omega arith) in
     omega arith
@@ -19,6 +20,7 @@ add-result-2 : tie.Need-add-result-2
 add-result-2 c =
     let a = c .before .before .args in
     let g = gds-few (a .form .grid) in
+    let e = gds-room (a .form .grid) in
     let b = bms-few (a .form .bitmap) (a .n) (omega arith) in
     let d = bds-few (a .form .packing .bits) (a .m) (omega arith) (omega arith) in
     omega arith
@@ -27,6 +29,7 @@ add-result-3 : tie.Need-add-result-3
 add-result-3 c =
     let a = c .before .before .args in
     let g = gds-few (a .form .grid) in
+    let e = gds-room (a .form .grid) in
     let b = bms-few (a .form .bitmap) (a .n) (omega arith) in
     let d = bds-few (a .form .packing .bits) (a .m) (omega arith) (omega arith) in
     omega arith
@@ -35,6 +38,7 @@ add-result-4 : tie.Need-add-result-4
 add-result-4 c =
     let a = c .before .before .before .args in
     let g = gds-few (a .form .grid) in
+    let e = gds-room (a .form .grid) in
     let b = bms-few (a .form .bitmap) (a .n) (omega arith) in
     let d = bds-few (a .form .packing .bits) (a .m) (omega arith) (omega arith) in
     omega arith
@@ -43,13 +47,16 @@ add-result-5 : tie.Need-add-result-5
 add-result-5 c =
     let a = c .before .before .before .args in
     let g = gds-few (a .form .grid) in
+    let e = gds-room (a .form .grid) in
     let b = bms-few (a .form .bitmap) (a .n) (omega arith) in
     let d = bds-few (a .form .packing .bits) (a .m) (omega arith) (omega arith) in
     omega arith
 
 returns : tie.Need-returns
 unfolding messageRoom frontRoom
-returns c = search needs
+returns c =
+    let e = gds-room (c .before .before .before .args .form .grid) in
+    omega arith
 
 pub message-room-spec : {M : Type 1} → statement M
 message-room-spec =

@@ -30,7 +30,7 @@ row-requires c κs =
     let l = c .before .before .loop in
     let a = c .before .before .before .before .before .before .before .args in
     let m = rows-most (a .values .now) (a .marks .now) (a .g) (l .r) in
-    let h = row-room (a .g .ni) (a .g .nj) (l .r) (omega arith) in
+    let h = row-room (a .g) (l .r) (omega arith) in
     (omega arith, (omega arith, omega arith))
 
 loop-again : tie.Need-loop-again Inv-loop μ-loop
@@ -39,7 +39,7 @@ loop-again c =
     let a = c .before .before .before .before .before .before .before .before .before .before .args in
     let m = rows-most (a .values .now) (a .marks .now) (a .g) (l .r) in
     let n = row-most (a .values .now) (a .marks .now) (a .g) (l .r) in
-    let h = row-room (a .g .ni) (a .g .nj) (l .r) (omega arith) in
+    let h = row-room (a .g) (l .r) (omega arith) in
     (omega arith, (omega arith, wrote-part _ (l .r) (l .inv .1 .1) (c .before .before .row .ensures) (omega arith)))
 
 returns : tie.Need-returns Inv-loop μ-loop
@@ -47,7 +47,7 @@ returns c =
     let a = c .before .before .before .before .before .before .args in
     let e : c .before .loop .r ≡ rowsOn (a .g) = omega arith in
     let m = rows-most (a .values .now) (a .marks .now) (a .g) (c .before .loop .r) in
-    let h = rows-room (a .g .ni) (a .g .nj) (c .before .loop .r) e in
+    let h = rows-room (a .g) (c .before .loop .r) e in
     (rows-done _ _ _ _ (a .values .now) (a .marks .now) (a .g) _ e (c .before .loop .inv .1 .1), omega arith)
 
 pub rows-spec : {M : Type 1} → statement M

@@ -4,8 +4,10 @@
 //! * `source`  rules 1 to 12, 18 and 15: the message alone, the source alone, and
 //!   where they differ;
 //! * `steps`   rules 16 and 17: R and E, half a step;
-//! * `pairs`   two faults and more at once.
+//! * `pairs`   two faults and more at once;
+//! * `octants` thinned octants.
 
+mod octants;
 mod pairs;
 mod source;
 mod steps;
@@ -78,6 +80,7 @@ pub fn table() -> Table {
     source::add(&mut table);
     steps::add(&mut table);
     pairs::add(&mut table);
+    octants::add(&mut table);
     table
 }
 

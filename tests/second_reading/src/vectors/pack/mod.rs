@@ -3,8 +3,10 @@
 //!
 //! * `refused`  5, 18, 15, 11, 19, then the writer's 6, 7, 9, 10, 13 and 14;
 //! * `pairs`    two faults and more at once, in that order;
-//! * `taken`    fields that must be packed: R, E and X by hand.
+//! * `taken`    fields that must be packed: R, E and X by hand;
+//! * `octants`  thinned octants, given and from the catalogue.
 
+mod octants;
 mod pairs;
 mod refused;
 mod taken;
@@ -148,6 +150,7 @@ pub fn table() -> Table {
     refused::add(&mut table);
     pairs::add(&mut table);
     taken::add(&mut table);
+    octants::add(&mut table);
     table
 }
 

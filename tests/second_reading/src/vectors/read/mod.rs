@@ -12,12 +12,14 @@
 //! * `data`     rules 10 to 12 and 14: bitmap, packing, data length, room;
 //! * `pairs`    two faults and more at once;
 //! * `taken`    messages that must be accepted;
-//! * `misread`  the misreadings that document 01 names.
+//! * `misread`  the misreadings that document 01 names;
+//! * `octants`  thinned octants, with and without their GDS.
 
 mod data;
 mod fields;
 mod layout;
 mod misread;
+mod octants;
 mod pairs;
 mod taken;
 
@@ -27,7 +29,7 @@ use super::files::three;
 use crate::again::first_changed;
 use crate::grid::place_of;
 use crate::read::read;
-use crate::{BitmapKind, Header, Lent};
+use crate::{BitmapKind, Header, Lent, Rows};
 
 /// One message with what is lent, and what must come of it.
 pub struct Vector {
@@ -106,6 +108,7 @@ pub fn table() -> Table {
     pairs::add(&mut table);
     taken::add(&mut table);
     misread::add(&mut table);
+    octants::add(&mut table);
     table
 }
 
@@ -227,12 +230,18 @@ impl Vector {
             Some(place) => format!("differs at {place}"),
         };
         let (time, grid) = (&header.time, &header.grid);
-        let spot = |point| match place_of(grid.ni, grid.nj, grid.scan, point) {
+        let spot = |point| match place_of(grid, point) {
             Some((row, column)) => format!("{row} {column}"),
             None => "off".to_string(),
         };
+        let rows = match grid.rows {
+            Rows::Even => "",
+            Rows::FromEquator => " equator",
+            Rows::FromPole => " pole",
+            Rows::Neither => panic!("9 refuses it"),
+        };
         format!(
-            "{} 0 {} {} {} {} {} {} {:08x} {} {} {kind} {} {} {} {} {} {} {} {} {} {} {} {} {} {} {} {:08x} {kept} {again}\n",
+            "{} 0 {} {} {} {} {} {} {:08x} {} {} {kind} {} {} {} {} {} {} {} {} {} {} {} {} {}{rows} {} {} {:08x} {kept} {again}\n",
             self.name,
             header.points,
             header.present,
@@ -293,7 +302,7 @@ fn summed(answer: &Answer) -> u64 {
 
 /// A field of the answer, as the table names it.
 fn field(header: &Header, name: &str) -> i64 {
-    let spot = place_of(header.grid.ni, header.grid.nj, header.grid.scan, 0);
+    let spot = place_of(&header.grid, 0);
     match name {
         "points" => header.points as i64,
         "present" => header.present as i64,
@@ -306,6 +315,7 @@ fn field(header: &Header, name: &str) -> i64 {
         "Di" => header.grid.di as i64,
         "Dj" => header.grid.dj as i64,
         "scan" => header.grid.scan as i64,
+        "rows" => header.grid.rows.number() as i64,
         "resolution flags" => header.grid.flags as i64,
         "D" => header.d as i64,
         "E" => header.e as i64,
@@ -343,7 +353,7 @@ mod tests {
     /// By hand: the vectors whose octets do not all come back when what was read is
     /// written, and the first that does not, counted from 1. The GDS starts at octet
     /// 37, the specimen's BMS at 69 and its BDS at 77.
-    const CHANGED: [(&str, usize); 13] = [
+    const CHANGED: [(&str, usize); 41] = [
         // GDS 11, 14, 18 and 21: minus zero
         ("9-la1-800000", 47),
         ("9-la2-800000", 54),
@@ -364,6 +374,37 @@ mod tests {
         ("taken-minus-zeros", 47),
         // GDS 11 after a PDS of 58 octets
         ("taken-everything", 77),
+        // octants: GDS 29, 30, 31, 32
+        ("octant-37-reserved", 65),
+        ("octant-38-reserved", 65),
+        ("octant-39-reserved", 65),
+        ("octant-40-reserved", 65),
+        ("octant-41-reserved", 65),
+        ("octant-42-reserved", 65),
+        ("octant-43-reserved", 65),
+        ("octant-44-reserved", 65),
+        ("octant-37-reserved-29", 65),
+        ("octant-37-reserved-30", 66),
+        ("octant-37-reserved-31", 67),
+        ("octant-37-reserved-32", 68),
+        ("octant-42-reserved-29", 65),
+        ("octant-42-reserved-30", 66),
+        ("octant-42-reserved-31", 67),
+        ("octant-42-reserved-32", 68),
+        // GDS 11 in the north, 18 in the south: minus zero
+        ("octant-37-minus-zero", 47),
+        ("octant-38-minus-zero", 47),
+        ("octant-39-minus-zero", 47),
+        ("octant-40-minus-zero", 47),
+        ("octant-41-minus-zero", 54),
+        ("octant-42-minus-zero", 54),
+        ("octant-43-minus-zero", 54),
+        ("octant-44-minus-zero", 54),
+        ("octant-37-minus-zero-reserved", 47),
+        ("octant-42-minus-zero-reserved", 54),
+        // BMS 437, after a GDS of 178 octets: the bit after the 3,447th
+        ("octant-37-padding", 651),
+        ("octant-42-padding", 651),
     ];
 
     /// Each accepted message is written again as its own octets say, and comes back
@@ -380,7 +421,8 @@ mod tests {
             assert_eq!(answer, (0, message.len() as u32), "{}", vector.name);
             assert_eq!(again, cleaned(message, lent), "{}", vector.name);
             let by_hand = CHANGED.iter().find(|line| line.0 == vector.name);
-            assert_eq!(first_changed(message, lent), by_hand.map(|line| line.1));
+            let changed = first_changed(message, lent);
+            assert_eq!(changed, by_hand.map(|line| line.1), "{}", vector.name);
         }
     }
 

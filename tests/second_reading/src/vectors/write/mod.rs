@@ -3,10 +3,12 @@
 //! * `fields`  rules 5, 6, 7 and 9: PDS, time, catalogue, grid;
 //! * `lists`   rules 10, 11, 13 and 14: stored bitmap, packing, lists, room;
 //! * `pairs`   two faults and more at once;
-//! * `taken`   parts that must be written.
+//! * `taken`   parts that must be written;
+//! * `octants` thinned octants, given and from the catalogue.
 
 mod fields;
 mod lists;
+mod octants;
 mod pairs;
 mod taken;
 
@@ -84,6 +86,7 @@ pub fn table() -> Table {
     lists::add(&mut table);
     pairs::add(&mut table);
     taken::add(&mut table);
+    octants::add(&mut table);
     table
 }
 

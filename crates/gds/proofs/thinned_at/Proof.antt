@@ -1,0 +1,19 @@
+-- What the table reads is the fields, group by group.
+use Rattle.rules.specs.Columns.{cellsAt}
+use Rattle.rules.specs.Grid.{gridOfCells}
+use borrow.Author.Needs.{needs}
+use Rattle.gds.proofs.thinned_at.Statement.{statement}
+use Rattle.gds.proofs.thinned_at.Tie as tie
+
+returns : tie.Need-returns
+unfolding gridOfCells cellsAt
+returns c = rw (c .grid-with .ensures, c .before .start-at .ensures, c .before .before .edges-at .ensures)
+
+pub thinned-at-spec : {M : Type 1} → statement M
+thinned-at-spec =
+    tie.close
+    (tie.spec
+    (λ c κs. search needs)
+    (λ c κs. search needs)
+    (λ c κs. search needs)
+    returns)
