@@ -19,7 +19,7 @@ wrong = []
 Answer = collections.namedtuple("Answer", "name places")  # places: (file, text replaced)
 
 # What the prover says of a proof that is no longer a proof, rather than of a fact that is no longer so.
-MISSHAPEN = re.compile(r"not in scope|unknown (?:name|field|module)|no field|parse|syntax|cannot find|is not defined|too (?:many|few) arguments")
+MISSHAPEN = re.compile(r"not in scope|unknown (?:name|field|module)|no field|parse|syntax|cannot find|is not defined|too (?:many|few) arguments|that can be named from here|does not cover")
 WAITS = re.compile(r"was not admitted|which is not proved")
 
 

@@ -129,11 +129,16 @@ shape-uneven g o e = sym (ap (shapeBy g) e)
 module _ (counts : List ℕ) (scan r n : ℕ) (e : n ≡ length counts) where
   pub across-in : r < n → (m : ℕ) → m ≡ getD counts (turned (north scan) (length counts) r) 0 → m ≡ across counts scan r
   unfolding across
-  across-in l m f = f ∙ sym (ap (λ (t : Bool). cond t (getD counts (turned (north scan) (length counts) r) 0) 0) (lt-ltb r (length counts) (subst (λ (x : ℕ). r < x) e l)))
+  across-in l m f =
+      f
+      ∙ sym (ap (λ (t : Bool). cond t (getD counts (turned (north scan) (length counts) r) 0) 0)
+      (lt-ltb r (length counts) (subst (λ (x : ℕ). r < x) e l)))
 
   pub across-out : n ≤ r → 0 ≡ across counts scan r
   unfolding across
-  across-out l = sym (ap (λ (t : Bool). cond t (getD counts (turned (north scan) (length counts) r) 0) 0) (le-ltb r (length counts) (subst (λ (x : ℕ). x ≤ r) e l)))
+  across-out l =
+      sym (ap (λ (t : Bool). cond t (getD counts (turned (north scan) (length counts) r) 0) 0)
+      (le-ltb r (length counts) (subst (λ (x : ℕ). x ≤ r) e l)))
 
 -- a grid point of n, and a number that is none
 module _ (g : Shape) (k : GridPoint) (n : ℕ) (e : n ≡ pointsOn g) where

@@ -50,7 +50,8 @@ module _ (counts s : List ℕ) (g : ℕ) (long : length counts ≡ octantRows) (
   compared-next a b h p q =
       let l : i < length counts = omega (arith, h, long) in
       let m : octantRows - i ≡ suc (octantRows - (i + 1)) = omega (arith, h) in
-      let e = one-more (octantRows - (i + 1)) k b s g (drop i counts) (drop (i + 1) counts) (rows-at counts i l ∙ ap (λ (x : ℕ). x ∷ drop (i + 1) counts) (sym q)) in
+      let r = rows-at counts i l ∙ ap (λ (x : ℕ). x ∷ drop (i + 1) counts) (sym q) in
+      let e = one-more (octantRows - (i + 1)) k b s g (drop i counts) (drop (i + 1) counts) r in
       let rest = sameCounts (heldFrom s g (k + 2) (octantRows - (i + 1))) (drop (i + 1) counts) in
       record {
         is = and-assoc same (eqb a b) rest ∙ ap (λ (x : ℕ). same && (eqb x b && rest)) p

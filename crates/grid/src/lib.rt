@@ -147,12 +147,12 @@ fn thinned_bad(g: Grid, o: Octant) -> bool
     ensures { λ r. ⌜ r ≡
         anyOf (kindFaults g (Thinned o) ++ cellsFaults (columns thinned) (cellsBy g (Thinned o))) ⌝ }
 {
-    let x = o.edges;
+    let edges = o.edges;
     !is_octant(g)
         | latitude_bad(g.la1)
         | longitude_bad(g.lo1)
-        | latitude_bad(x.la2)
-        | longitude_bad(x.lo2)
+        | latitude_bad(edges.la2)
+        | longitude_bad(edges.lo2)
 }
 
 // Refusal 9 of a grid, whoever gives it.

@@ -83,7 +83,15 @@ geometry-back (Thinned o) = by (o .start)
 pub grid-returns : GridReturns
 unfolding gridBy
 grid-returns g =
-    ap (λ (x : Geometry). Given (record { ni = g .ni; nj = g .nj; la1 = g .la1; lo1 = g .lo1; flags = g .flags; scan = g .scan; geometry = x }))
+    ap (λ (x : Geometry). Given (record {
+      ni = g .ni;
+      nj = g .nj;
+      la1 = g .la1;
+      lo1 = g .lo1;
+      flags = g .flags;
+      scan = g .scan;
+      geometry = x;
+    }))
     (geometry-back (g .geometry))
 
 pub bitmap-returns : BitmapReturns

@@ -73,10 +73,24 @@ read-fits : (k : Kind) (s : List ℕ) (g : ℕ) → Below 256 s → GridFits (gr
 unfolding gridOfCells cellsAt
 read-fits latlon s g h =
     let b = bitsIn-bits 8 s in
-    record { ni = run-lt b ((g + 6) * 8) 16; nj = run-lt b ((g + 8) * 8) 16; flags = h (g + 16); scan = h (g + 27); di = run-lt b ((g + 23) * 8) 16; dj = run-lt b ((g + 25) * 8) 16 }
+    record {
+      ni = run-lt b ((g + 6) * 8) 16;
+      nj = run-lt b ((g + 8) * 8) 16;
+      flags = h (g + 16);
+      scan = h (g + 27);
+      di = run-lt b ((g + 23) * 8) 16;
+      dj = run-lt b ((g + 25) * 8) 16;
+    }
 read-fits thinned s g h =
     let b = bitsIn-bits 8 s in
-    record { ni = run-lt b ((g + 6) * 8) 16; nj = run-lt b ((g + 8) * 8) 16; flags = h (g + 16); scan = h (g + 27); di = run-lt b ((g + 23) * 8) 16; dj = run-lt b ((g + 25) * 8) 16 }
+    record {
+      ni = run-lt b ((g + 6) * 8) 16;
+      nj = run-lt b ((g + 8) * 8) 16;
+      flags = h (g + 16);
+      scan = h (g + 27);
+      di = run-lt b ((g + 23) * 8) 16;
+      dj = run-lt b ((g + 25) * 8) 16;
+    }
 
 grid-fits : (b : Bool) (s : List ℕ) (p : Part) → Below 256 s → FoundFits (cond b (Given (gridAt s p)) Nothing)
 unfolding gridAt

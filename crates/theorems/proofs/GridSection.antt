@@ -278,7 +278,8 @@ fields-of : (k : Kind) (x : Cells (columns k)) → anyOf (gridFaults (gridOfCell
 unfolding gridFields gridOfCells cellsBy
 fields-of latlon x h = refl
 fields-of thinned x h =
-    let e = ap (countCells 33 octantRows) (known (countsHeld 33 octantRows (tallies x)) (not-neither x h)) ∙ cells-counts 33 octantRows (tallies x) in
+    let a = known (countsHeld 33 octantRows (tallies x)) (not-neither x h) in
+    let e = ap (countCells 33 octantRows) a ∙ cells-counts 33 octantRows (tallies x) in
     ap (λ (q : Cells (countColumns 33 octantRows)). headFields thinned (cellsFields (columns thinned) (refill x q))) e
 
 -- the kind that is picked is admitted, where one is

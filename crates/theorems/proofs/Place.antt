@@ -94,7 +94,8 @@ module _ (m c : ℕ) where
       let n = getD-replicate m (k / c) c 0 hj in
       let hi : k % c < getD equal (k / c) 0 = subst (λ (x : ℕ). k % c < x) (sym n) (mod-lt k p) in
       let h = joined equal (k / c) (k % c) (subst (λ (x : ℕ). k / c < x) (sym (length-replicate m c)) hj) hi in
-      let e : beforeRow equal (k / c) + k % c ≡ k = ap (λ (x : ℕ). x + k % c) (before-equal m c (k / c) (omega (arith, hj))) ∙ div-add-mod' k c in
+      let f = before-equal m c (k / c) (omega (arith, hj)) in
+      let e : beforeRow equal (k / c) + k % c ≡ k = ap (λ (x : ℕ). x + k % c) f ∙ div-add-mod' k c in
       (ap (rowOf equal) (sym e) ∙ h .1, ap (inRow equal) (sym e) ∙ h .2, hj)
 
   module _ (t u : Bool) where
@@ -126,7 +127,8 @@ module _ (m c : ℕ) where
         let d = lined equal t u k (subst (λ (x : ℕ). k < x) (sym (total-equal m c)) h) in
         let el = line-equal k h in
         let ea = along-equal k h in
-        let hl : turned t m (k / c) < m = subst (λ (x : ℕ). x < m) el (subst (λ (x : ℕ). lineOf equal t u k < x) (length-replicate m c) (d .line)) in (
+        let hd = subst (λ (x : ℕ). lineOf equal t u k < x) (length-replicate m c) (d .line) in
+        let hl : turned t m (k / c) < m = subst (λ (x : ℕ). x < m) el hd in (
           hl,
           turned-lt u c (k % c) (mod-lt k (left-positive c m k h)),
           sym (number-equal (turned t m (k / c)) (turned u c (k % c)) hl)
@@ -136,9 +138,12 @@ module _ (m c : ℕ) where
     pub equal-back : (l i : ℕ) → l < m → i < c
         → (at l i < c * m) × (turned t m (at l i / c) ≡ l) × (turned u c (at l i % c) ≡ i)
     equal-back l i hl hi =
-        let n = numbered equal t u l i (subst (λ (x : ℕ). l < x) (sym (length-replicate m c)) hl) (subst (λ (x : ℕ). i < x) (sym (long-equal l hl)) hi) in
+        let hr = subst (λ (x : ℕ). l < x) (sym (length-replicate m c)) hl in
+        let hc = subst (λ (x : ℕ). i < x) (sym (long-equal l hl)) hi in
+        let n = numbered equal t u l i hr hc in
         let e = number-equal l i hl in
-        let few : at l i < c * m = subst (λ (x : ℕ). at l i < x) (total-equal m c) (subst (λ (x : ℕ). x < total equal) e (n .few)) in (
+        let all = subst (λ (x : ℕ). x < total equal) e (n .few) in
+        let few : at l i < c * m = subst (λ (x : ℕ). at l i < x) (total-equal m c) all in (
           few,
           sym (line-equal (at l i) few) ∙ ap (lineOf equal t u) (sym e) ∙ n .line,
           sym (along-equal (at l i) few) ∙ ap (alongOf equal t u) (sym e) ∙ n .along,
@@ -212,7 +217,9 @@ module _ (counts : List ℕ) (scan : ℕ) where
   among-back c hr hc =
       let e = row-among counts scan (c .row) hr in
       let h = numbered counts (north scan) (west scan) (c .row) (c .column) hr (subst (λ (x : ℕ). c .column < x) e hc) in
-      let n : pointAmong counts scan c ≡ numberOf counts (north scan) (west scan) (c .row) (c .column) = ap (λ (x : ℕ). beforeRow counts (turned (north scan) (length counts) (c .row)) + turned (west scan) x (c .column)) e in (
+      let b = beforeRow counts (turned (north scan) (length counts) (c .row)) in
+      let f = ap (λ (x : ℕ). b + turned (west scan) x (c .column)) e in
+      let n : pointAmong counts scan c ≡ numberOf counts (north scan) (west scan) (c .row) (c .column) = f in (
         subst (λ (x : ℕ). x < total counts) (sym n) (h .few),
         ap (spotAmong counts scan) n ∙ (λ i. record { row = h .line i; column = h .along i }),
       )

@@ -23,7 +23,8 @@ loop-again : tie.Need-loop-again Inv-loop μ-loop
 loop-again c =
     let l = c .before .before .before .loop in
     let b = c .before .before .before .before .before in
-    let t = compared-next _ _ _ (b .pre) _ _ _ (l .inv .1 .1) _ _ (c .before .before .loop-test .taken) (c .before .two .ensures) (c .count .ensures) in
+    let h = c .before .before .loop-test .taken in
+    let t = compared-next _ _ _ (b .pre) _ _ _ (l .inv .1 .1) _ _ h (c .before .two .ensures) (c .count .ensures) in
     (omega arith, (omega arith, t))
 
 returns : tie.Need-returns Inv-loop μ-loop

@@ -41,11 +41,13 @@ loop-again c =
     let l = c .before .before .before .before .before .before .loop in
     let b = c .before .before .before .before .before .before .before .before in
     let n = c .before .before .before .before in
-    let few : n .count .result < 65536 = omega (arith, n .count .ensures, count-most (countsOf (b .args .start)) (l .i), octant-few (b .args .start)) in (
+    let most = count-most (countsOf (b .args .start)) (l .i) in
+    let few : n .count .result < 65536 = omega (arith, n .count .ensures, most, octant-few (b .args .start)) in (
       omega arith,
       (
         omega arith,
-        counts-put _ _ _ _ _ _ _ _ (l .inv .1 .1) (n .before .loop-test .taken) (l .inv .1 .0) (n .count .ensures) few (c .before .before .put-two .ensures .1),
+        counts-put _ _ _ _ _ _ _ _ (l .inv .1 .1) (n .before .loop-test .taken) (l .inv .1 .0) (n .count .ensures) few
+            (c .before .before .put-two .ensures .1),
       ),
     )
 

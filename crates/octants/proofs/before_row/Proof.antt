@@ -25,11 +25,11 @@ loop-holds : tie.Need-loop-holds Inv-loop μ-loop
 loop-holds c = (omega arith, (omega arith, sym (before-first _)))
 
 -- a turn's two tests, and the sum after it
-next : (start : Start) (i j n sum c : ℕ) → n ≡ length (countsOf start) → (ltb i j && ltb i n) ≡ true
+next : (start : Start) {i j n sum c : ℕ} → n ≡ length (countsOf start) → (ltb i j && ltb i n) ≡ true
     → sum ≡ beforeRow (countsOf start) i
     → c ≡ getD (countsOf start) i 0
     → (i < j) × ((i < length (countsOf start)) × ((sum + c ≡ beforeRow (countsOf start) (i + 1)) × (sum + c ≤ 3447)))
-next start i j n sum c en t es ec =
+next start {i} {j} {n} {sum} {c} en t es ec =
     let counts = countsOf start in
     let l = both-tests i j i n t in
     let e : i < length counts = omega (arith, l .1, en) in
@@ -38,26 +38,30 @@ next start i j n sum c en t es ec =
 
 add-sum : tie.Need-add-sum Inv-loop μ-loop
 add-sum c =
-    let l = c .before .before .loop in
-    let p = next (c .before .before .before .before .args .start) _ _ _ _ _ (c .before .before .before .rows .ensures) (c .before .loop-test .taken) (l .inv .1 .1) (c .count .ensures) in
+    let b = c .before .before in
+    let start = b .before .before .args .start in
+    let p = next start (b .before .rows .ensures) (c .before .loop-test .taken) (b .loop .inv .1 .1) (c .count .ensures) in
     record { fits = omega (arith, p .1 .1 .1) }
 
 add-i : tie.Need-add-i Inv-loop μ-loop
 add-i c =
-    let l = c .before .before .loop in
-    let p = next (c .before .before .before .before .args .start) _ _ _ _ _ (c .before .before .before .rows .ensures) (c .before .loop-test .taken) (l .inv .1 .1) (c .count .ensures) in
-    record { fits = omega (arith, p .1 .0, rows-few (c .before .before .before .before .args .start)) }
+    let b = c .before .before in
+    let start = b .before .before .args .start in
+    let p = next start (b .before .rows .ensures) (c .before .loop-test .taken) (b .loop .inv .1 .1) (c .count .ensures) in
+    record { fits = omega (arith, p .1 .0, rows-few start) }
 
 loop-less : tie.Need-loop-less Inv-loop μ-loop
 loop-less c =
-    let l = c .before .before .loop in
-    let p = next (c .before .before .before .before .args .start) _ _ _ _ _ (c .before .before .before .rows .ensures) (c .before .loop-test .taken) (l .inv .1 .1) (c .count .ensures) in
+    let b = c .before .before in
+    let start = b .before .before .args .start in
+    let p = next start (b .before .rows .ensures) (c .before .loop-test .taken) (b .loop .inv .1 .1) (c .count .ensures) in
     omega (arith, p .0)
 
 loop-again : tie.Need-loop-again Inv-loop μ-loop
 loop-again c =
-    let l = c .before .before .loop in
-    let p = next (c .before .before .before .before .args .start) _ _ _ _ _ (c .before .before .before .rows .ensures) (c .before .loop-test .taken) (l .inv .1 .1) (c .count .ensures) in
+    let b = c .before .before in
+    let start = b .before .before .args .start in
+    let p = next start (b .before .rows .ensures) (c .before .loop-test .taken) (b .loop .inv .1 .1) (c .count .ensures) in
     (omega (arith, p .1 .0), (omega (arith, p .0), p .1 .1 .0))
 
 returns : tie.Need-returns Inv-loop μ-loop

@@ -22,14 +22,16 @@ copy-requires c κs = search needs
 put-bitmap-requires : tie.Need-put-bitmap-requires
 unfolding frontRoom
 put-bitmap-requires c κs =
-    let b = c .before .before .before .before .before .before .before .before .before .before .before .before .before .before .before .before .before in
+    let m = c .before .before .before .before .before .before .before .before in
+    let b = m .before .before .before .before .before .before .before .before .before in
     let e = gds-room (b .args .form .grid) in
     (omega arith, omega arith)
 
 add-put-bitmap : tie.Need-add-put-bitmap
 unfolding frontRoom
 add-put-bitmap c =
-    let b = c .before .before .before .before .before .before .before .before .before .before .before .before .before .before .before .before .before in
+    let m = c .before .before .before .before .before .before .before .before in
+    let b = m .before .before .before .before .before .before .before .before .before in
     let e = gds-room (b .args .form .grid) in
     omega arith
 
