@@ -17,6 +17,7 @@ use Rattle.rules.specs.Values.{wholeOf}
 use Rattle.rules.specs.Reading.{messageTable, ownRefusal, headerOf}
 use Rattle.rules.specs.Checking.{Source, sourceFaults, decimalDiffers, scaleFaults, checkTable, checkOf}
 use Rattle.laws.specs.Sources.{WellFormed}
+use Rattle.laws.proofs.Judged.{own-numbered}
 use Rattle.laws.proofs.Sources.{well-formed}
 use Rattle.message.proofs.Said as S
 use Rattle.reply.proofs.Stages.{or-append, staged}
@@ -29,11 +30,10 @@ use Rattle.checker.proofs.Rows.{whole-is, differ-is, out-is}
 module _ (s : List ℕ) (lent : Lent) (f : Source) where
   own-first : checkOf s lent f
       ≡ cond (accepted (ownRefusal s lent)) (firstOr (checkRows s lent f) (refusal 0)) (ownRefusal s lent)
-  unfolding checkOf checkTable checkRows ownRefusal messageTable first firstOr
+  unfolding checkOf checkTable checkRows ownRefusal first firstOr
   own-first =
       or-append (messageTable s lent) (checkRows s lent f) (refusal 0)
-      ∙ staged (messageTable s lent) (firstOr (checkRows s lent f) (refusal 0))
-      (tt, (tt, (tt, (tt, (tt, (tt, (tt, (tt, (tt, (tt, (tt, (tt, tt))))))))))))
+      ∙ staged (messageTable s lent) (firstOr (checkRows s lent f) (refusal 0)) (own-numbered s lent)
 
   module _ (h : Header) (e : h ≡ headerOf s lent) where
     pub own-refused : (h .refusal .number ≡ 0 → ⊥) → h .refusal ≡ checkOf s lent f

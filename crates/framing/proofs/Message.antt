@@ -190,13 +190,13 @@ module _ (pds : List ℕ) (form : Form) (scale : Scale) (number : ℕ) (store va
     unfolding writeRefusal first ownRows earlyRows frontRows middleRows
     early z =
         ap (λ (x : List Row). firstOr x (refusal 0)) table
-        ∙ sym (stop own (row 14 last ∷ []) (refusal 0) r (tt, (tt, (tt, (tt, (tt, (tt, (tt, tt))))))) er z)
+        ∙ sym (stop own (row 14 last ∷ []) (refusal 0) r tt er z)
 
     late : r .number ≡ 0 → (t : Bool) → last ≡ t → writeRefusal w out ≡ cond t (refusal 14) (refusal 0)
     unfolding writeRefusal first firstOr ownRows earlyRows frontRows middleRows
     late z t e =
         ap (λ (x : List Row). firstOr x (refusal 0)) table
-        ∙ sym (go-on own (row 14 last ∷ []) (refusal 0) r (tt, (tt, (tt, (tt, (tt, (tt, (tt, tt))))))) er z
+        ∙ sym (go-on own (row 14 last ∷ []) (refusal 0) r tt er z
         (cond t (refusal 14) (refusal 0)) (ap (λ (u : Bool). cond u (refusal 14) (refusal 0)) (sym e)))
 
     -- refused: the answer, and nothing written

@@ -1,12 +1,11 @@
 -- The reader's rows 1 to 12 as twelve named facts, there and back, and in the groups that code judges, by the
 -- definitions: nothing else looks at its table by position.
-use mathlib.Core.Bool.{true, false, _&&_, _||_}
+use mathlib.Core.Bool.{true, false, _&&_}
 use mathlib.Core.Path.{_≡_, refl}
-use mathlib.Core.List.{List, [], _∷_}
+use mathlib.Core.List.{List}
 use Prim.Native.Nat.{ℕ}
-use lib.Dec.{T, ltb}
-use lib.ListN.{length}
-use Rattle.rules.specs.Table.{row, refusal, accepted, anyOf}
+use lib.Dec.{T}
+use Rattle.rules.specs.Table.{refusal, accepted, anyOf}
 use Rattle.rules.specs.Places.{pdsStart, endStart, hasGrid, hasBitmap, placesOf, sizeBad, gribBad, editionBad}
 use Rattle.rules.specs.Places.{totalFaults, placesFaults}
 use Rattle.rules.specs.Time.{timeFaults}
@@ -18,7 +17,7 @@ use Rattle.rules.specs.Reading.{parsedOf, messageTable, ownRefusal, readTable, 
 use Rattle.laws.specs.Groups.{layoutRows, gridRows, dataRows, earlierRows}
 use Rattle.laws.specs.Tables.{Clear, RowsInGroups}
 use Rattle.laws.specs.Taken.{Taken}
-use Rattle.laws.proofs.Rows.{zero-of, clear, clear-parts, accepts, taken-by}
+use Rattle.laws.proofs.Rows.{Numbered, numbered-append, zero-of, clear, clear-parts, accepts, taken-by}
 
 pub record Judged (s : List ℕ) (lent : Lent) : Type 0 where
   pub size : sizeBad s ≡ false
@@ -38,31 +37,36 @@ pub rows-in-groups : RowsInGroups
 unfolding messageTable earlierRows layoutRows gridRows dataRows parsedOf
 rows-in-groups s lent = refl
 
+-- acceptance's number is no row's
+pub own-numbered : (s : List ℕ) (lent : Lent) → Numbered (messageTable s lent)
+unfolding messageTable
+own-numbered s lent = tt
+
+pub read-numbered : (s : List ℕ) (lent : Lent) (values marks : List ℕ) → Numbered (readTable s lent values marks)
+unfolding readTable
+read-numbered s lent values marks = numbered-append (messageTable s lent) _ (own-numbered s lent) tt
+
 pub rows : (s : List ℕ) (lent : Lent) → Taken s lent → Clear (messageTable s lent)
-unfolding ownRefusal messageTable
-rows s lent t = clear (messageTable s lent) (tt, (tt, (tt, (tt, (tt, (tt, (tt, (tt, (tt, (tt, (tt, (tt, tt)))))))))))) t
+unfolding ownRefusal
+rows s lent t = clear (messageTable s lent) (own-numbered s lent) t
 
 -- what of a table that goes on after row 12 is accepted is taken
 pub read-taken : (s : List ℕ) (lent : Lent) (values marks : List ℕ) → T (accepted (readRefusal s lent values marks))
     → Taken s lent
-unfolding ownRefusal readRefusal readTable messageTable
+unfolding ownRefusal readRefusal readTable
 read-taken s lent values marks t =
-    let h = clear (readTable s lent values marks) (tt, (tt, (tt, (tt, (tt, (tt, (tt, (tt, (tt, (tt, (tt, (tt, (tt, tt))))))))))))) t in
-    let last = row 14 (ltb (length values) (pointsIn s) || ltb (length marks) (pointsIn s)) in
-    taken-by _ (accepts (messageTable s lent) (clear-parts (messageTable s lent) (last ∷ []) h .0))
+    let h = clear (readTable s lent values marks) (read-numbered s lent values marks) t in
+    taken-by _ (accepts (messageTable s lent) (clear-parts (messageTable s lent) _ h .0))
 
 -- where they accept, the reply is refusal 0
 pub own-zero : (s : List ℕ) (lent : Lent) → accepted (ownRefusal s lent) ≡ true → ownRefusal s lent ≡ refusal 0
-unfolding ownRefusal messageTable
-own-zero s lent =
-    zero-of (messageTable s lent) (tt, (tt, (tt, (tt, (tt, (tt, (tt, (tt, (tt, (tt, (tt, (tt, tt))))))))))))
+unfolding ownRefusal
+own-zero s lent = zero-of (messageTable s lent) (own-numbered s lent)
 
 pub read-zero : (s : List ℕ) (lent : Lent) (values marks : List ℕ) → accepted (readRefusal s lent values marks) ≡ true
     → readRefusal s lent values marks ≡ refusal 0
-unfolding readRefusal readTable messageTable
-read-zero s lent values marks =
-    zero-of (readTable s lent values marks)
-    (tt, (tt, (tt, (tt, (tt, (tt, (tt, (tt, (tt, (tt, (tt, (tt, (tt, tt)))))))))))))
+unfolding readRefusal
+read-zero s lent values marks = zero-of (readTable s lent values marks) (read-numbered s lent values marks)
 
 pub judged : (s : List ℕ) (lent : Lent) → Taken s lent → Judged s lent
 unfolding messageTable

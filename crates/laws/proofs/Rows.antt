@@ -7,16 +7,36 @@ use mathlib.Core.List.{List, [], _∷_, _++_}
 use native.Mathlib.Nat.{lt-irrefl}
 use borrow.Author.Tests.{le-ltb, ltb-false, eq-eqb}
 use lib.Dec.{T, ltb, eqb, eqb→eq, ltb→lt}
+use lib.Ieee.Fits.{and-l, and-r}
 use Rattle.rules.specs.declared.{Refusal.Refusal}
 use Rattle.rules.specs.Numbers.{notWithin}
 use Rattle.rules.specs.Table.{Row, given, refusal, accepted, firstOr, first, orAll, anyOf}
 use Rattle.laws.specs.Tables.{Clear}
 use Rattle.bits.proofs.Tests.{or-false, or-none}
 
--- the rows of a table all have a number that is not acceptance's
+-- the rows of a table all have a number that is not acceptance's: a test that computes whatever the rows ask, so that
+-- of a table that is written out it is `tt`
+abbrev numbered : List Row → Bool
+numbered [] = true
+numbered (given r test ∷ rows) = ltb 0 (r .number) && numbered rows
+
 abbrev pub Numbered : List Row → Type 0
-Numbered [] = Unit
-Numbered (given r test ∷ rows) = T (ltb 0 (r .number)) × Numbered rows
+Numbered rows = T (numbered rows)
+
+-- the first row's number, and the other rows'
+pub row-numbered : (r : Refusal) (test : Bool) (rows : List Row) → Numbered (given r test ∷ rows)
+    → T (ltb 0 (r .number)) × Numbered rows
+row-numbered r test rows h = (and-l (ltb 0 (r .number)) (numbered rows) h, and-r (ltb 0 (r .number)) (numbered rows) h)
+
+-- rows after rows
+and-map : (x y z : Bool) → (T y → T z) → T (x && y) → T (x && z)
+and-map true y z f h = f h
+and-map false y z f h = h
+
+pub numbered-append : (a b : List Row) → Numbered a → Numbered b → Numbered (a ++ b)
+numbered-append [] b h k = k
+numbered-append (given r test ∷ a) b h k =
+    and-map (ltb 0 (r .number)) (numbered a) (numbered (a ++ b)) (λ q. numbered-append a b q k) h
 
 pub passed : (r : Refusal) (test : Bool) (below : Refusal) → T (ltb 0 (r .number)) → T (accepted (cond test r below))
     → (test ≡ false) × T (accepted below)
@@ -28,8 +48,9 @@ pub clear : (rows : List Row) → Numbered rows → T (accepted (first rows)) �
 unfolding first firstOr
 clear [] p t = tt
 clear (given r test ∷ rows) p t =
-    let h = passed r test (first rows) (p .0) t in
-    (h .0, clear rows (p .1) (h .1))
+    let n = row-numbered r test rows p in
+    let h = passed r test (first rows) (n .0) t in
+    (h .0, clear rows (n .1) (h .1))
 
 pub clear-parts : (a b : List Row) → Clear (a ++ b) → Clear a × Clear b
 clear-parts [] b h = (tt, h)

@@ -44,8 +44,7 @@ module _ (s : List ℕ) (lent : Lent) where
   own t r e f =
       ap first (rows-in-groups s lent)
       ∙ or-append (earlierRows s lent (parsedOf s)) (row 12 late ∷ []) (refusal 0)
-      ∙ staged (earlierRows s lent (parsedOf s)) (cond late (refusal 12) (refusal 0))
-      (tt, (tt, (tt, (tt, (tt, (tt, (tt, (tt, (tt, (tt, (tt, tt)))))))))))
+      ∙ staged (earlierRows s lent (parsedOf s)) (cond late (refusal 12) (refusal 0)) tt
       ∙ ap₂ (λ (u : Bool) (q : Refusal). cond (accepted q) (cond u (refusal 12) (refusal 0)) q) (sym e) (sym f)
 
   answer : (x : Refusal) → ownRefusal s lent ≡ x → headerOf s lent ≡ cond (accepted x) (foundIn s lent) (refusedBy x)

@@ -6,13 +6,13 @@ use Prim.Native.Nat.{ℕ}
 use Rattle.rules.specs.Table.{row, refusal, firstOr, first, accepted}
 use Rattle.rules.specs.Bitmap.{Lent}
 use Rattle.rules.specs.Reading.{messageTable, ownRefusal}
+use Rattle.laws.proofs.Judged.{own-numbered}
 use Rattle.reply.proofs.Stages.{or-append, staged}
 
 pub one-more : (s : List ℕ) (lent : Lent) (n : ℕ) (test : Bool)
     → first (messageTable s lent ++ (row n test ∷ []))
     ≡ cond (accepted (ownRefusal s lent)) (cond test (refusal n) (refusal 0)) (ownRefusal s lent)
-unfolding ownRefusal messageTable first firstOr
+unfolding ownRefusal first firstOr
 one-more s lent n test =
     or-append (messageTable s lent) (row n test ∷ []) (refusal 0)
-    ∙ staged (messageTable s lent) (cond test (refusal n) (refusal 0))
-    (tt, (tt, (tt, (tt, (tt, (tt, (tt, (tt, (tt, (tt, (tt, (tt, tt))))))))))))
+    ∙ staged (messageTable s lent) (cond test (refusal n) (refusal 0)) (own-numbered s lent)

@@ -85,7 +85,7 @@ module _ (pds : List ℕ) (form : Form) (number : ℕ) (store : List ℕ) (numbe
   module _ (r : Refusal) (er : r ≡ first rows) where
     early : (r .number ≡ 0 → ⊥) → packRefusal pds form lent f out ≡ r
     unfolding packRefusal packTable first packRows
-    early z = sym (stop rows later (refusal 0) r (tt, (tt, (tt, (tt, tt)))) er z)
+    early z = sym (stop rows later (refusal 0) r tt er z)
 
     pub pack-early : (r .number ≡ 0 → ⊥)
         → (record { refusal = r; len = 0 } ≡ packOf pds form lent f out) × (out ≡ packedAfter pds form lent f out)
@@ -94,12 +94,12 @@ module _ (pds : List ℕ) (form : Form) (number : ℕ) (store : List ℕ) (numbe
     module _ (z : r .number ≡ 0) where
       on : (q : Refusal) → q ≡ firstOr later (refusal 0) → packRefusal pds form lent f out ≡ q
       unfolding packRefusal packTable first packRows
-      on q e = sym (go-on rows later (refusal 0) r (tt, (tt, (tt, (tt, tt)))) er z q e)
+      on q e = sym (go-on rows later (refusal 0) r tt er z q e)
 
       formed : WellFormed f
       unfolding packRows
       formed = well-formed f
-          (passed rows (tt, (tt, (tt, (tt, tt)))) (ap (λ (q : Refusal). q .number) (sym er) ∙ z) .1 .0)
+          (passed rows tt (ap (λ (q : Refusal). q .number) (sym er) ∙ z) .1 .0)
 
       module _ (e : ℕ) (ee : e ≡ exponent f bits) where
         pub pack-19 : stepMost < e

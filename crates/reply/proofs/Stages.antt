@@ -10,7 +10,7 @@ use native.Mathlib.Omega.{arith}
 use Rattle.rules.specs.declared.{Refusal.Refusal}
 use Rattle.rules.specs.Table.{Row, given, firstOr, first, accepted}
 use Rattle.laws.specs.Tables.{Clear}
-use Rattle.laws.proofs.Rows.{Numbered, clear, true-is}
+use Rattle.laws.proofs.Rows.{Numbered, row-numbered, clear, true-is}
 
 -- rows, and then more rows
 pub or-append : (xs ys : List Row) (z : Refusal) → firstOr (xs ++ ys) z ≡ firstOr xs (firstOr ys z)
@@ -26,8 +26,9 @@ pub staged : (rows : List Row) (x : Refusal) → Numbered rows
     → firstOr rows x ≡ cond (accepted (first rows)) x (first rows)
 unfolding first firstOr
 staged [] x h = refl
-staged (given r true ∷ rows) x h = let e : eqb (r .number) 0 ≡ false = ne-eqb (r .number) 0 (above (r .number) (h .0)) in rw e
-staged (given r false ∷ rows) x h = staged rows x (h .1)
+staged (given r true ∷ rows) x h =
+    let e : eqb (r .number) 0 ≡ false = ne-eqb (r .number) 0 (above (r .number) (row-numbered r true rows h .0)) in rw e
+staged (given r false ∷ rows) x h = staged rows x (row-numbered r false rows h .1)
 
 module _ (xs ys : List Row) (z r : Refusal) (h : Numbered xs) (e : r ≡ first xs) where
   -- the first rows refuse

@@ -23,8 +23,8 @@ use Rattle.laws.specs.Tables.{Clear}
 use Rattle.laws.specs.Sources.{AtPresent, Agrees, InRange}
 use Rattle.theorems.specs.Checks.{Near, Passes, CheckExactly}
 use Rattle.bits.proofs.Tests.{or-none}
-use Rattle.laws.proofs.Rows.{clear, clear-parts, accepts, taken-by, first-after, any-none, not-eq}
-use Rattle.laws.proofs.Judged.{rows}
+use Rattle.laws.proofs.Rows.{numbered-append, clear, clear-parts, accepts, taken-by, first-after, any-none, not-eq}
+use Rattle.laws.proofs.Judged.{own-numbered, rows}
 use Rattle.laws.proofs.Whole.{ltZ-irrefl}
 use Rattle.laws.proofs.Sources.{at-none, none-at, well-formed, formed-well}
 use Rattle.laws.proofs.Agreed.{agrees, in-range}
@@ -82,12 +82,10 @@ module _ (s : List ℕ) (lent : Lent) (f : Source) where
       ∷ row 16 (anyOf (scaleFaults (scaleIn s))) ∷ row 17 (pointOut s lent f) ∷ []
 
   through : checkOf s lent f ≡ refusal 0 → Clear (messageTable s lent) × Clear four
-  unfolding checkOf checkTable messageTable
+  unfolding checkOf checkTable
   through e =
       clear-parts (messageTable s lent) four
-      (clear (checkTable s lent f)
-      (tt, (tt, (tt, (tt, (tt, (tt, (tt, (tt, (tt, (tt, (tt, (tt, (tt, (tt, (tt, (tt, tt))))))))))))))))
-      (taken-by _ e))
+      (clear (checkTable s lent f) (numbered-append (messageTable s lent) four (own-numbered s lent) tt) (taken-by _ e))
 
   passes : checkOf s lent f ≡ refusal 0 → Passes s lent f
   unfolding ownRefusal

@@ -53,7 +53,7 @@ pub record Offer (w : Parts) (out : List ℕ) : Type 0 where
 
 pub rows : (w : Parts) (out : List ℕ) → T (accepted (writeRefusal w out)) → Clear (writeTable w out)
 unfolding writeRefusal writeTable
-rows w out t = clear (writeTable w out) (tt, (tt, (tt, (tt, (tt, (tt, (tt, (tt, tt)))))))) t
+rows w out t = clear (writeTable w out) tt t
 
 pub offered : (w : Parts) (out : List ℕ) → T (accepted (writeRefusal w out)) → Offer w out
 unfolding writeTable

@@ -23,8 +23,8 @@ use Rattle.rules.specs.Packing.{packTable, packRefusal, packOf}
 use Rattle.laws.specs.Tables.{Clear}
 use Rattle.theorems.specs.Replies.{Stops, RefusalFirst, numbers, Among, ReplyAmong, RowNumbers, Whole}
 use Rattle.theorems.specs.Replies.{TakenOrRefused, RefusalKeeps, AcceptedFills}
-use Rattle.laws.proofs.Rows.{is-true, zero-of}
-use Rattle.laws.proofs.Judged.{own-zero, read-zero}
+use Rattle.laws.proofs.Rows.{is-true, numbered-append, zero-of}
+use Rattle.laws.proofs.Judged.{own-numbered, own-zero, read-zero}
 
 on-top : (test : Bool) (r : Refusal) (rows : List Row)
     → (Clear rows × (first rows ≡ refusal 0)) ⊎ Stops rows (first rows)
@@ -98,20 +98,18 @@ whole {A} r z found zeros = go (accepted r) refl
 -- the tables of all that is answered: an accepted one's reply is refusal 0
 display-zero : (s : List ℕ) (lent : Lent) → accepted (first (displayTable s lent)) ≡ true
     → first (displayTable s lent) ≡ refusal 0
-unfolding displayTable messageTable
+unfolding displayTable
 display-zero s lent =
-    zero-of (displayTable s lent) (tt, (tt, (tt, (tt, (tt, (tt, (tt, (tt, (tt, (tt, (tt, (tt, (tt, tt)))))))))))))
+    zero-of (displayTable s lent) (numbered-append (messageTable s lent) _ (own-numbered s lent) tt)
 
 write-zero : (w : Parts) (out : List ℕ) → accepted (writeRefusal w out) ≡ true → writeRefusal w out ≡ refusal 0
 unfolding writeRefusal writeTable
-write-zero w out = zero-of (writeTable w out) (tt, (tt, (tt, (tt, (tt, (tt, (tt, (tt, tt))))))))
+write-zero w out = zero-of (writeTable w out) tt
 
 pack-zero : (pds : List ℕ) (form : Form) (lent : Lent) (f : Source) (out : List ℕ)
     → accepted (packRefusal pds form lent f out) ≡ true → packRefusal pds form lent f out ≡ refusal 0
 unfolding packRefusal packTable writeTable
-pack-zero pds form lent f out =
-    zero-of (packTable pds form lent f out)
-    (tt, (tt, (tt, (tt, (tt, (tt, (tt, (tt, (tt, (tt, (tt, (tt, (tt, tt)))))))))))))
+pack-zero pds form lent f out = zero-of (packTable pds form lent f out) tt
 
 pub taken-or-refused : TakenOrRefused
 unfolding headerOf readOf answerBy displayOf bitmapOf numberingOf writeOf packOf lengthOf

@@ -71,7 +71,7 @@ pub accepted-of : (pds : List ℕ) (form : Form) (scale : Scale) (lent : Lent) (
     → Accepted pds form scale values marks found n
 unfolding ownRows earlyRows frontRows middleRows listFaults pdsFaults listsFit pointsBad
 accepted-of pds form scale lent values marks found n r e z =
-    let p = passed (ownRows pds form scale lent values marks found n) (tt, (tt, (tt, (tt, (tt, (tt, (tt, tt))))))) (ap (λ (q : Refusal). q .number) (sym e) ∙ z) in
+    let p = passed (ownRows pds form scale lent values marks found n) tt (ap (λ (q : Refusal). q .number) (sym e) ∙ z) in
     let g = p .1 .1 .1 in
     let a = none-of (pdsFaults pds) (p .0) in
     let q = none-of (listFaults pds form values marks n) (g .1 .1 .1 .0) in

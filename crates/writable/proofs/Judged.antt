@@ -134,11 +134,11 @@ module _ (pds : List ℕ) (form : Form) (scale : Scale) (lent : Lent) (values ma
   module _ (r : Refusal) (e : r ≡ first (frontRows pds found)) where
     pub early-front : (r .number ≡ 0 → ⊥) → r ≡ first early
     unfolding first earlyRows frontRows
-    early-front z = stop (frontRows pds found) middle (refusal 0) r (tt, (tt, (tt, (tt, tt)))) e z
+    early-front z = stop (frontRows pds found) middle (refusal 0) r tt e z
 
     pub early-middle : r .number ≡ 0 → (q : Refusal) → q ≡ first middle → q ≡ first early
     unfolding first earlyRows frontRows
-    early-middle z q f = go-on (frontRows pds found) middle (refusal 0) r (tt, (tt, (tt, (tt, tt)))) e z q f
+    early-middle z q f = go-on (frontRows pds found) middle (refusal 0) r tt e z q f
 
   abbrev last : List Row
   last = row 13 (anyOf (listFaults pds form values marks n)) ∷ []
@@ -149,11 +149,11 @@ module _ (pds : List ℕ) (form : Form) (scale : Scale) (lent : Lent) (values ma
   module _ (r : Refusal) (e : r ≡ first early) where
     pub own-early : (r .number ≡ 0 → ⊥) → r ≡ own
     unfolding first ownRows earlyRows frontRows middleRows
-    own-early z = stop early last (refusal 0) r (tt, (tt, (tt, (tt, (tt, (tt, tt)))))) e z
+    own-early z = stop early last (refusal 0) r tt e z
 
     pub own-last : r .number ≡ 0 → (t : Bool) → t ≡ anyOf (listFaults pds form values marks n) → (x : Refusal)
         → x ≡ cond t (refusal 13) (refusal 0) → x ≡ own
     unfolding first firstOr ownRows earlyRows frontRows middleRows
     own-last z t et x ex =
-        go-on early last (refusal 0) r (tt, (tt, (tt, (tt, (tt, (tt, tt)))))) e z x
+        go-on early last (refusal 0) r tt e z x
         (ex ∙ ap (λ (u : Bool). cond u (refusal 13) (refusal 0)) et)
