@@ -33,7 +33,10 @@ static int draw(size_t len)
     uint32_t row, column, columns;
 
     if (reply != GRIB1_ACCEPTED) {
-        printf("refused %u\n", (unsigned)reply);
+        printf("refused %u", (unsigned)reply);
+        if (h.place != 0) /* a section's length went wrong: where to look in the file */
+            printf(": section %u, octet %u", (unsigned)h.section, (unsigned)h.place);
+        printf("\n");
         return 1;
     }
     printf("%04u-%02u-%02u %02u:%02u, ", (unsigned)h.year, (unsigned)h.month, (unsigned)h.day, (unsigned)h.hour,

@@ -6,8 +6,8 @@
  *   - a pointer and its length, in elements, are memory that the caller lends for the call; no pointer is NULL, also
  *     where its length is 0;
  *   - a buffer that is written (values and marks of grib1_read, out) overlaps no other buffer of the call.
- * A buffer that is not written is only read. A reply other than 0 changes no buffer and comes with every other field 0.
- * Padding between fields has no set content.
+ * A buffer that is not written is only read. A reply other than 0 changes no buffer and comes with every other field 0,
+ * but for section and place, which 20 to 23 alone tell. Padding between fields has no set content.
  *
  * Thread-safe: no globals, no heap, nothing is kept between calls. How much stack a call takes is told below, by
  * function.
@@ -16,7 +16,8 @@
  * store_number   the number of the stored bitmap that is lent with the message, 0 where none is
  * store          its octets; where none is lent, any pointer with length 0
  *
- * Octets of a part, sections and grid points are counted from 0 here. */
+ * Octets of a part, sections and grid points are counted from 0 here. The place that a refusal tells is alone counted
+ * from 1, as the rules count octets, so that it can be read out as it is: it is that of message[place - 1]. */
 #ifndef GRIB1_H
 #define GRIB1_H
 
@@ -30,9 +31,9 @@ extern "C" {
 /* The version of what is declared here. While its first number is 0, a new second number may change a name, a field or
  * a function, and a new third one changes none. */
 #define GRIB1_VERSION_MAJOR 0
-#define GRIB1_VERSION_MINOR 3
+#define GRIB1_VERSION_MINOR 4
 #define GRIB1_VERSION_PATCH 0
-#define GRIB1_VERSION "0.3.0"
+#define GRIB1_VERSION "0.4.0"
 
 /* The rules' bounds, and what to lend. */
 #define GRIB1_MESSAGE_LEAST 8          /* octets of a message */
@@ -62,31 +63,33 @@ extern "C" {
 /* The most octets of stack that a call takes, its arguments and its return address among them: measured over many calls
  * (tests/stack) and rounded up. Those that write, pack or check hold 256 values at a time. A loader that binds late may
  * take more at a program's first call. */
-#define GRIB1_STACK_HEADER 1536
-#define GRIB1_STACK_READ 1792
-#define GRIB1_STACK_SECTION 1536
+#define GRIB1_STACK_HEADER 1792
+#define GRIB1_STACK_READ 2048
+#define GRIB1_STACK_SECTION 1792
 #define GRIB1_STACK_BITMAP 1536
-#define GRIB1_STACK_DISPLAY 1536
+#define GRIB1_STACK_DISPLAY 1792
 #define GRIB1_STACK_PLACE 256
 #define GRIB1_STACK_POINT 256
 #define GRIB1_STACK_ROW 256
-#define GRIB1_STACK_DATA_NUMBER 1536
+#define GRIB1_STACK_DATA_NUMBER 1792
 #define GRIB1_STACK_LENGTH 1536
 #define GRIB1_STACK_WRITE 3584
-#define GRIB1_STACK_CHECK 3840
+#define GRIB1_STACK_CHECK 4096
 #define GRIB1_STACK_PACK 4864
 
-/* What a reply says. The first that applies is given, in number order; grib1_check gives 1 to 12, then 18, 15, 16,
- * 17, and grib1_pack gives 5, 18, 15, 11, 19, then the rest of grib1_write's. */
+/* What a reply says. The first that applies is given, in number order but for 20 to 23, which reading gives after 4 and
+ * before 6. They go section by section from the front: PDS, GDS and BMS where PDS octet 8 announces them, BDS. In a
+ * section 22 comes first where the three octets of its length pass the end section's start, then 20, 21, and 22 where
+ * the section does; 23 comes after the BDS. grib1_check gives those of grib1_header, then 18, 15, 16, 17, and
+ * grib1_pack gives 5, 18, 15, 11, 19, then the rest of grib1_write's. */
 enum grib1_reply {
     GRIB1_ACCEPTED = 0,
     GRIB1_SIZE = 1,            /* slice below 8 or above 262,144 octets */
     GRIB1_NOT_GRIB = 2,        /* first four octets not 'GRIB' */
     GRIB1_EDITION = 3,         /* edition not 1 */
     GRIB1_TOTAL = 4,           /* total length is not the slice's, or last four octets not '7777' */
-    GRIB1_LENGTHS = 5,         /* a section length is odd or under its least (PDS 28, GDS 32, BMS 6, BDS 12), PDS over
-                                  1,024, a length's octets or its section passes the end section's start, or the
-                                  sections don't reach it exactly; writing: the PDS alone */
+    GRIB1_LENGTHS = 5,         /* writing and packing alone, reading never gives it: the length of the PDS given is odd,
+                                  below 28 or above 1,024 octets, or not what its octets 1-3 say */
     GRIB1_TIME = 6,            /* time out of its ranges */
     GRIB1_NO_GRID = 7,         /* no GDS, octet 7 not in the catalogue */
     GRIB1_GDS = 8,             /* GDS length or octets 4 to 6 not as the rules say */
@@ -105,7 +108,22 @@ enum grib1_reply {
     GRIB1_OUT = 17,            /* a present point is out by more than half a step */
     GRIB1_SOURCE = 18,         /* source lists unequal, 0 or over 65,536 long, a mark not 0 or 1, a present number
                                   outside its bound */
-    GRIB1_NO_STEP = 19         /* packer: no E from 0 to 24 fits */
+    GRIB1_NO_STEP = 19,        /* packer: no E from 0 to 24 fits */
+    GRIB1_LENGTH_ODD = 20,     /* reading: a section length is odd */
+    GRIB1_LENGTH_BOUNDS = 21,  /* reading: a section length is under its least (PDS 28, GDS 32, BMS 6, BDS 12), or PDS
+                                  over 1,024 */
+    GRIB1_LENGTH_PASSES = 22,  /* reading: a section, or the three octets of its length, pass the end section's start */
+    GRIB1_LEFT_OVER = 23       /* reading: octets between the BDS's end and the end section */
+};
+
+/* The sections of a message, as grib1_section takes them and as 20 to 23 tell them. */
+enum grib1_section_number {
+    GRIB1_SECTION_INDICATOR = 0,
+    GRIB1_SECTION_PDS = 1,
+    GRIB1_SECTION_GDS = 2,
+    GRIB1_SECTION_BMS = 3,
+    GRIB1_SECTION_BDS = 4,
+    GRIB1_SECTION_END = 5
 };
 
 /* Which points are present. */
@@ -165,7 +183,12 @@ typedef struct {
 
 /* What a message says, but for its lists. A value X at a point stands for Y with Y x 10^D = R + X x 2^E. */
 typedef struct {
-    uint32_t reply;            /* enum grib1_reply: 0, 1 to 12, and 14 of grib1_read */
+    uint32_t reply;            /* enum grib1_reply: 0, 1 to 4, 6 to 12, 20 to 23, and 14 of grib1_read */
+    uint32_t section;          /* of 20 to 22 the section whose length it is, GRIB1_SECTION_PDS to GRIB1_SECTION_BDS; of
+                                  23 GRIB1_SECTION_END; else 0 */
+    uint32_t place;            /* of 20 to 22 where in the message that section starts, of 23 where the octets left over
+                                  do, the message's first octet being 1; else 0. The end section's start where an
+                                  announced section has no octet left */
     uint32_t points;           /* n, the grid's points: ni x nj, or a thinned octant's 3,447; at most
                                   GRIB1_POINTS_MOST */
     uint32_t present;          /* how many of them are present */
@@ -190,7 +213,9 @@ typedef struct {
 
 /* R and 2^E, exactly. */
 typedef struct {
-    uint32_t reply;            /* enum grib1_reply: 0, 1 to 12, 16 */
+    uint32_t reply;            /* enum grib1_reply: 0, 1 to 4, 6 to 12, 16, 20 to 23 */
+    uint32_t section;          /* as in a header */
+    uint32_t place;            /* as in a header */
     double reference;          /* R */
     double step;               /* 2^E */
 } Grib1Display;
@@ -223,7 +248,10 @@ typedef struct {
 
 /* What checking answers. */
 typedef struct {
-    uint32_t reply;            /* enum grib1_reply: 0 where the message renders the source, else 1 to 12, 15 to 18 */
+    uint32_t reply;            /* enum grib1_reply: 0 where the message renders the source, else 1 to 4, 6 to 12, 15 to
+                                  18, 20 to 23 */
+    uint32_t section;          /* as in a header */
+    uint32_t place;            /* as in a header */
 } Grib1Checked;
 
 /* What the caller of grib1_write, grib1_pack and grib1_length chooses. Every number means something: a kind with no
@@ -248,8 +276,8 @@ Grib1Header grib1_header(const uint8_t *message, size_t message_len, uint16_t st
 Grib1Header grib1_read(const uint8_t *message, size_t message_len, uint16_t store_number, const uint8_t *store,
     size_t store_len, uint32_t *values, size_t values_len, uint8_t *marks, size_t marks_len);
 
-/* Where section 0 to 5 lies: indicator, PDS, GDS, BMS, BDS, end. The empty part at the message's start for another
- * number, an absent section or a refused message. Reads message and store. */
+/* Where section 0 to 5 lies (enum grib1_section_number). The empty part at the message's start for another number, an
+ * absent section or a refused message. Reads message and store. */
 Grib1Part grib1_section(const uint8_t *message, size_t message_len, uint16_t store_number, const uint8_t *store,
     size_t store_len, uint32_t section);
 

@@ -32,6 +32,7 @@ mod records;
 mod refusal;
 mod rows;
 pub mod scan;
+mod section;
 
 #[cfg(feature = "driver")]
 mod driver;
@@ -44,8 +45,9 @@ mod linked;
 use linked as face;
 
 pub use grid::{Grid, Place, RowCounts};
-pub use refusal::Refusal;
+pub use refusal::{Refusal, Stop};
 pub use rows::{Row, Rows};
+pub use section::Section;
 
 /// The version of this crate, and of `include/grib1.h`.
 pub const VERSION: &str = env!("CARGO_PKG_VERSION");
@@ -68,17 +70,6 @@ pub enum Bitmap {
     Without,
     Carried,
     Stored(u16),
-}
-
-/// The sections of a message, by number.
-#[derive(Clone, Copy, Debug, PartialEq, Eq)]
-pub enum Section {
-    Indicator = 0,
-    Pds = 1,
-    Gds = 2,
-    Bms = 3,
-    Bds = 4,
-    End = 5,
 }
 
 /// The reference time of a field.
@@ -161,10 +152,11 @@ pub struct Message<'a> {
 }
 
 impl<'a> Message<'a> {
-    /// Takes a message, whole, or says why it is refused: replies 1 to 12.
+    /// Takes a message, whole, or says why it is refused: replies 1 to 4, 6 to 12, and 20 to 23, which tell where a
+    /// section's length went wrong.
     pub fn new(octets: &'a [u8], stored: Stored<'a>) -> Result<Message<'a>, Refusal> {
         let h = face::header(octets, stored.number, stored.octets);
-        Refusal::unless_accepted(h.reply)?;
+        Refusal::unless_taken(h.reply, h.section, h.place)?;
         Ok(Message { octets, stored, header: header_of(&h), gds: h.gds.len > 0 })
     }
 
@@ -192,7 +184,7 @@ impl<'a> Message<'a> {
     /// R and 2^E as doubles, or reply 16.
     pub fn display(&self) -> Result<Display, Refusal> {
         let d = face::display(self.octets, self.stored.number, self.stored.octets);
-        Refusal::unless_accepted(d.reply)?;
+        Refusal::unless_taken(d.reply, d.section, d.place)?;
         Ok(Display { reference: d.reference, step: d.step })
     }
 
@@ -209,7 +201,7 @@ impl<'a> Message<'a> {
     /// Puts n values and n marks at the front of the lent lists; reply 14 where one is shorter.
     pub fn read<'b>(&self, values: &'b mut [u32], marks: &'b mut [u8]) -> Result<Field<'b>, Refusal> {
         let h = face::read(self.octets, self.stored.number, self.stored.octets, values, marks);
-        Refusal::unless_accepted(h.reply)?;
+        Refusal::unless_taken(h.reply, h.section, h.place)?;
         let n = h.points as usize;
         Ok(Field { header: self.header, values: &values[..n], marks: &marks[..n] })
     }
@@ -217,7 +209,7 @@ impl<'a> Message<'a> {
     /// Whether the message renders a source field, every present point within half a step: else replies 15 to 18.
     pub fn check(&self, source: &Source) -> Result<(), Refusal> {
         let c = face::check(self.octets, self.stored.number, self.stored.octets, source.numbers, source.marks, source.d);
-        Refusal::unless_accepted(c.reply)
+        Refusal::unless_taken(c.reply, c.section, c.place)
     }
 
     /// The form by which the writer makes this message again.

@@ -28,6 +28,8 @@ pub struct Grid {
 #[repr(C)]
 pub struct Header {
     pub reply: u32,
+    pub section: u32,
+    pub place: u32,
     pub points: u32,
     pub present: u32,
     pub d: i32,
@@ -53,6 +55,8 @@ pub struct Header {
 #[repr(C)]
 pub struct Display {
     pub reply: u32,
+    pub section: u32,
+    pub place: u32,
     pub reference: f64,
     pub step: f64,
 }
@@ -90,6 +94,8 @@ pub struct Written {
 #[repr(C)]
 pub struct Checked {
     pub reply: u32,
+    pub section: u32,
+    pub place: u32,
 }
 
 #[derive(Clone, Copy)]

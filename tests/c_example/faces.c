@@ -4,27 +4,16 @@
 
 #define TEST "faces.c"
 #include "same.h"
+#include "specimen.h"
 
-static const uint8_t specimen[94] = {
-    0x47, 0x52, 0x49, 0x42, 0x00, 0x00, 0x5E, 0x01,
-    0x00, 0x00, 0x1C, 0x03, 0x07, 0x00, 0xFF, 0xC0, 0x0B, 0x64, 0x01, 0xF4, 0x62, 0x03, 0x0A, 0x06,
-    0x00, 0x01, 0x00, 0x00, 0x00, 0x00, 0x00, 0x00, 0x14, 0x00, 0x00, 0x01,
-    0x00, 0x00, 0x20, 0x00, 0xFF, 0x00, 0x00, 0x02, 0x00, 0x02, 0x00, 0xC3, 0x50, 0x80, 0x07, 0xD0,
-    0x80, 0x00, 0xC7, 0x38, 0x80, 0x03, 0xE8, 0x03, 0xE8, 0x03, 0xE8, 0x40,
-    0x00, 0x00, 0x00, 0x00,
-    0x00, 0x00, 0x08, 0x0C, 0x00, 0x00, 0xD0, 0x00,
-    0x00, 0x00, 0x0E, 0x0F, 0x00, 0x00, 0x43, 0x9C, 0x40, 0x00, 0x03, 0x0B, 0x80, 0x00,
-    0x37, 0x37, 0x37, 0x37,
-};
 static const Grib1Grid specimen_grid = {
     .la1 = 50000, .lo1 = -2000, .la2 = 51000, .lo2 = -1000, .ni = 2, .nj = 2, .di = 1000, .dj = 1000,
     .resolution = 128, .scan = GRIB1_SCAN_NORTH, .rows = GRIB1_ROWS_EVEN,
 };
-static const uint8_t none[1];
 
 static void is_specimen(int line, Grib1Header h)
 {
-    same_at(line, h.reply, GRIB1_ACCEPTED);
+    same_reply(line, h, GRIB1_ACCEPTED, 0, 0);
     same_at(line, h.points, 4);
     same_at(line, h.present, 3);
     same_at(line, h.d, 1);
@@ -82,11 +71,11 @@ static void parts(void)
     same_part(__LINE__, grib1_section(specimen, 93, 0, none, 0, 1), 0, 0, 0);
     same_part(__LINE__, grib1_bitmap(specimen, 94, 0, none, 0), 0, 74, 1);
     same_part(__LINE__, grib1_bitmap(specimen, 93, 0, none, 0), 0, 0, 0);
-    same(d.reply, GRIB1_ACCEPTED);
+    same_reply(__LINE__, d, GRIB1_ACCEPTED, 0, 0);
     same(d.reference, 2500);
     same(d.step, 1);
     d = grib1_display(specimen, 93, 0, none, 0);
-    same(d.reply, GRIB1_TOTAL);
+    same_reply(__LINE__, d, GRIB1_TOTAL, 0, 0);
     same(d.reference, 0);
     same(d.step, 0);
 }
@@ -152,6 +141,7 @@ static void writing(void)
     Grib1Header h = grib1_header(specimen, 94, 0, none, 0);
     Grib1Form form;
     Grib1Written w;
+    Grib1Checked c;
     uint8_t out[96];
 
     form.given = 1;
@@ -187,10 +177,16 @@ static void writing(void)
     same(memcmp(out, specimen, 94), 0);
     same(grib1_pack(pds, 28, form, 0, none, 0, numbers, 4, marks, 4, 2, out, 96).reply, GRIB1_DIFFERS);
 
-    same(grib1_check(specimen, 94, 0, none, 0, numbers, 4, marks, 4, 1).reply, GRIB1_ACCEPTED);
-    same(grib1_check(specimen, 94, 0, none, 0, far, 4, marks, 4, 1).reply, GRIB1_OUT);
-    same(grib1_check(specimen, 94, 0, none, 0, numbers, 4, marks, 4, -1).reply, GRIB1_DIFFERS);
-    same(grib1_check(specimen, 94, 0, none, 0, numbers, 3, marks, 4, 1).reply, GRIB1_SOURCE);
+    c = grib1_check(specimen, 94, 0, none, 0, numbers, 4, marks, 4, 1);
+    same_reply(__LINE__, c, GRIB1_ACCEPTED, 0, 0);
+    c = grib1_check(specimen, 94, 0, none, 0, far, 4, marks, 4, 1);
+    same_reply(__LINE__, c, GRIB1_OUT, 0, 0);
+    c = grib1_check(specimen, 94, 0, none, 0, numbers, 4, marks, 4, -1);
+    same_reply(__LINE__, c, GRIB1_DIFFERS, 0, 0);
+    c = grib1_check(specimen, 94, 0, none, 0, numbers, 3, marks, 4, 1);
+    same_reply(__LINE__, c, GRIB1_SOURCE, 0, 0);
+    c = grib1_check(specimen, 93, 0, none, 0, numbers, 4, marks, 4, 1);
+    same_reply(__LINE__, c, GRIB1_TOTAL, 0, 0);
 
     /* kinds that have no name */
     form.grid.rows = 3;

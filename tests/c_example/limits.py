@@ -1,4 +1,5 @@
-"""The constants of include/grib1.h and of the Rust crate are those of crates/rules/src/bounds.rt, which the codec is proved with, and their versions are one."""
+"""The constants of include/grib1.h and of the Rust crate are those of crates/rules/src/bounds.rt, which the codec is proved with, their sections
+have the same numbers, and their versions are one."""
 import os
 import re
 import sys
@@ -50,6 +51,15 @@ for where, found in [("include/grib1.h", {n[5:]: v for n, v in c.items() if n.st
     if found != bits:
         wrong.append(f"{where}: the scanning bits are {found}, and by the rules {bits}")
 
+# "Asking for section 0 to 5"; the walk over their lengths (crates/rules/specs/Walk.antt) tells 1 to 5
+sections = {"INDICATOR": 0, "PDS": 1, "GDS": 2, "BMS": 3, "BDS": 4, "END": 5}
+for where, found in [
+    ("include/grib1.h", numbers(header, r"^    GRIB1_SECTION_(\w+) = (\d+),?$")),
+    ("rust/src/section.rs", {n.upper(): v for n, v in numbers(text("rust", "src", "section.rs"), r"^    (\w+) = (\d+),$").items()}),
+]:
+    if found != sections:
+        wrong.append(f"{where}: the sections are {found}, and by the rules {sections}")
+
 version = ".".join(str(c[f"VERSION_{part}"]) for part in ("MAJOR", "MINOR", "PATCH"))
 for where, found in [
     ("include/grib1.h, GRIB1_VERSION", re.search(r'^#define GRIB1_VERSION "(.*)"$', header, re.M)[1]),
@@ -62,4 +72,4 @@ for where, found in [
 if wrong:
     print("\n".join("limits: " + w for w in wrong))
     sys.exit(1)
-print(f"limits: {len(limits)} bounds and {len(bits)} scanning bits, in C and in Rust as in the rules; version {version}")
+print(f"limits: {len(limits)} bounds, {len(bits)} scanning bits and {len(sections)} sections, in C and in Rust as in the rules; version {version}")

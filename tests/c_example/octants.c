@@ -1,6 +1,7 @@
 /* Every function of include/grib1.h on thinned octants, grids 37 to 44: the rows and places of all their points;
- * messages of them written, packed, read and checked, with and without a GDS; and the grids beside them that are
- * refused. And each message that is named is written back to its own octets.
+ * messages of them written, packed, read and checked, with and without a GDS; and the grids beside them, and section
+ * lengths about a GDS of 178 octets, that are refused. And each message that is named is written back to its own
+ * octets.
  *
  *   octants FILE..
  *
@@ -176,7 +177,7 @@ static void reads(int number, const Grib1Form *f, uint32_t r, size_t len, uint32
     same(read_marks[0], 0xAA);
     full = grib1_read(out, len, lent, store, lent_len, read_values, POINTS + 1, read_marks, POINTS + 1);
     for (k = 0; k < 2; k++, h = full) {
-        same(h.reply, GRIB1_ACCEPTED);
+        same_reply(__LINE__, h, GRIB1_ACCEPTED, 0, 0);
         same(h.points, POINTS);
         same(h.present, present);
         same(h.d, -1);
@@ -212,7 +213,7 @@ static void reads(int number, const Grib1Form *f, uint32_t r, size_t len, uint32
     same(grib1_data_number(out, len, lent, store, lent_len, 3).kind, marks[3] ? GRIB1_PRESENT : GRIB1_ABSENT);
     same(grib1_data_number(out, len, lent, store, lent_len, POINTS).kind, GRIB1_OUTSIDE);
     d = grib1_display(out, len, lent, store, lent_len);
-    same(d.reply, GRIB1_ACCEPTED);
+    same_reply(__LINE__, d, GRIB1_ACCEPTED, 0, 0);
     same(d.reference, r == 0 ? 0 : -100);
     same(d.step, 1);
 }
@@ -375,6 +376,44 @@ static void refused_messages(void)
     same_grid(__LINE__, grib1_header(out, k, 0, none, 0).grid, octant(37));
 }
 
+/* octant 37's message with a bitmap, 4,804 octets, where the section that starts at a place says another length */
+static void said(int line, uint32_t start, uint32_t length, uint32_t reply, uint32_t section, uint32_t place)
+{
+    Grib1Form f = field(37, 1, GRIB1_CARRIED, 12);
+    uint32_t len = grib1_write(pds, PDS, f, 0, 0, 0, none, 0, values, POINTS, marks, POINTS, out, ROOM).len;
+    Grib1Display d;
+    Grib1Checked c;
+
+    put(out + start - 1, length, 3);
+    same_stop(line, grib1_header(out, len, 0, none, 0), reply, section, place);
+    same_stop(line, grib1_read(out, len, 0, none, 0, read_values, POINTS, read_marks, POINTS), reply, section, place);
+    d = grib1_display(out, len, 0, none, 0);
+    same_reply(line, d, reply, section, place);
+    c = grib1_check(out, len, 0, none, 0, numbers, POINTS, marks, POINTS, -1);
+    same_reply(line, c, reply, section, place);
+}
+
+/* section lengths that went wrong about a GDS of 178 octets: it starts at 37, the BMS at 215, the BDS at 653, the end
+ * section at 4801 */
+static void lengths(void)
+{
+    said(__LINE__, 37, 177, GRIB1_LENGTH_ODD, GRIB1_SECTION_GDS, 37);
+    said(__LINE__, 37, 179, GRIB1_LENGTH_ODD, GRIB1_SECTION_GDS, 37);
+    said(__LINE__, 37, 30, GRIB1_LENGTH_BOUNDS, GRIB1_SECTION_GDS, 37);
+    said(__LINE__, 37, 32, GRIB1_LENGTH_PASSES, GRIB1_SECTION_BMS, 69); /* the counts are taken for a BMS */
+    said(__LINE__, 37, 4764, GRIB1_LENGTH_PASSES, GRIB1_SECTION_BMS, 4801);
+    said(__LINE__, 37, 4766, GRIB1_LENGTH_PASSES, GRIB1_SECTION_GDS, 37);
+    said(__LINE__, 215, 437, GRIB1_LENGTH_ODD, GRIB1_SECTION_BMS, 215);
+    said(__LINE__, 215, 4, GRIB1_LENGTH_BOUNDS, GRIB1_SECTION_BMS, 215);
+    said(__LINE__, 215, 4586, GRIB1_LENGTH_PASSES, GRIB1_SECTION_BDS, 4801);
+    said(__LINE__, 215, 4588, GRIB1_LENGTH_PASSES, GRIB1_SECTION_BMS, 215);
+    said(__LINE__, 653, 4149, GRIB1_LENGTH_ODD, GRIB1_SECTION_BDS, 653);
+    said(__LINE__, 653, 10, GRIB1_LENGTH_BOUNDS, GRIB1_SECTION_BDS, 653);
+    said(__LINE__, 653, 4150, GRIB1_LENGTH_PASSES, GRIB1_SECTION_BDS, 653);
+    said(__LINE__, 653, 4146, GRIB1_LEFT_OVER, GRIB1_SECTION_END, 4799);
+    said(__LINE__, 653, 12, GRIB1_LEFT_OVER, GRIB1_SECTION_END, 665);
+}
+
 static void written_back(const char *name)
 {
     FILE *file = fopen(name, "rb");
@@ -415,6 +454,7 @@ int main(int words, char **word)
     nowhere(grib1_header(none, 0, 0, none, 0).grid, GRIB1_ROWS_EVEN);
     refused_forms();
     refused_messages();
+    lengths();
     for (k = 1; k < words; k++)
         written_back(word[k]);
     return differ;

@@ -40,12 +40,17 @@ static void same_grid(int line, Grib1Grid is, Grib1Grid wanted)
     same_at(line, is.rows, wanted.rows);
 }
 
-/* every field 0 but the reply */
-static void same_refusal(int line, Grib1Header h, uint32_t reply)
+/* a header's, a display's or a check's reply, and what it tells */
+#define same_reply(line, is, number, told_section, told_place) \
+    (same_at(line, (is).reply, number), same_at(line, (is).section, told_section), \
+        same_at(line, (is).place, told_place))
+
+/* every field 0 but the reply and what it tells */
+static void same_stop(int line, Grib1Header h, uint32_t reply, uint32_t section, uint32_t place)
 {
     static const Grib1Grid zeros;
 
-    same_at(line, h.reply, reply);
+    same_reply(line, h, reply, section, place);
     same_at(line, h.points + h.present + h.r + h.bitmap, 0);
     same_at(line, h.d, 0);
     same_at(line, h.e, 0);
@@ -56,5 +61,8 @@ static void same_refusal(int line, Grib1Header h, uint32_t reply)
     same_part(line, h.bds, 0, 0, 0);
     same_at(line, h.bitmap_number + h.year + h.month + h.day + h.hour + h.minute + h.packing_flags + h.bits, 0);
 }
+
+/* every field 0 but the reply */
+#define same_refusal(line, h, reply) same_stop(line, h, reply, 0, 0)
 
 #endif

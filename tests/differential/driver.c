@@ -83,9 +83,17 @@ static void tell_part(Grib1Part p)
     tell(p.len);
 }
 
+/* a reply, and the section and the place where a length went wrong, or zeros */
+static void tell_reply(uint32_t reply, uint32_t section, uint32_t place)
+{
+    tell(reply);
+    tell(section);
+    tell(place);
+}
+
 static void tell_header(Grib1Header h)
 {
-    tell(h.reply);
+    tell_reply(h.reply, h.section, h.place);
     tell(h.points);
     tell(h.present);
     tell((uint32_t)h.d);
@@ -150,6 +158,7 @@ static void about_message(uint32_t function)
     uint8_t *s = list(1, 0, &s_len);
     Grib1Display display;
     Grib1Data data;
+    Grib1Checked checked;
     uint32_t *values;
     int32_t *numbers;
     uint8_t *marks;
@@ -171,7 +180,7 @@ static void about_message(uint32_t function)
         break;
     case 4:
         display = grib1_display(m, m_len, number, s, s_len);
-        tell(display.reply);
+        tell_reply(display.reply, display.section, display.place);
         say(&display.reference, 8);
         say(&display.step, 8);
         break;
@@ -183,7 +192,8 @@ static void about_message(uint32_t function)
     default:
         numbers = list(4, 0, &a_len);
         marks = list(1, 0, &b_len);
-        tell(grib1_check(m, m_len, number, s, s_len, numbers, a_len, marks, b_len, (int32_t)word()).reply);
+        checked = grib1_check(m, m_len, number, s, s_len, numbers, a_len, marks, b_len, (int32_t)word());
+        tell_reply(checked.reply, checked.section, checked.place);
         break;
     }
 }

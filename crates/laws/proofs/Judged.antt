@@ -1,5 +1,5 @@
--- The reader's rows 1 to 12 as twelve named facts, there and back, and in the groups that code judges, by the
--- definitions: nothing else looks at its table by position.
+-- The reader's rows 1 to 12 as twelve named facts, there and back, with document 01's row 5 for the walk of R-2, and in
+-- the groups that code judges, by the definitions: nothing else looks at its table by position.
 use mathlib.Core.Bool.{true, false, _&&_}
 use mathlib.Core.Path.{_≡_, refl}
 use mathlib.Core.List.{List}
@@ -7,7 +7,8 @@ use Prim.Native.Nat.{ℕ}
 use lib.Dec.{T}
 use Rattle.rules.specs.Table.{refusal, accepted, anyOf}
 use Rattle.rules.specs.Places.{pdsStart, endStart, hasGrid, hasBitmap, placesOf, sizeBad, gribBad, editionBad}
-use Rattle.rules.specs.Places.{totalFaults, placesFaults}
+use Rattle.rules.specs.Places.{totalFaults}
+use Rattle.rules.specs.Walk.{sectionRows, walkRows, walkOf}
 use Rattle.rules.specs.Time.{timeFaults}
 use Rattle.rules.specs.Grid.{gridMissing, theGrid, gdsBad, gridFaults}
 use Rattle.rules.specs.Bitmap.{Lent, bitmapFaults}
@@ -16,15 +17,18 @@ use Rattle.rules.specs.Reading.{gridOf, pointsIn, bitmapIn, presentCount, packi
 use Rattle.rules.specs.Reading.{parsedOf, messageTable, ownRefusal, readTable, readRefusal}
 use Rattle.laws.specs.Groups.{layoutRows, gridRows, dataRows, earlierRows}
 use Rattle.laws.specs.Tables.{Clear, RowsInGroups}
+use Rattle.laws.specs.Lengths.{lengthsBad}
 use Rattle.laws.specs.Taken.{Taken}
-use Rattle.laws.proofs.Rows.{Numbered, numbered-append, zero-of, clear, clear-parts, accepts, taken-by}
+use Rattle.laws.proofs.Rows.{Numbered, numbered-append, zero-of, clear, clear-parts, clear-join, accepts}
+use Rattle.laws.proofs.Rows.{taken-by}
+use Rattle.laws.proofs.Walk.{walk-as-row}
 
 pub record Judged (s : List ℕ) (lent : Lent) : Type 0 where
   pub size : sizeBad s ≡ false
   pub mark : gribBad s ≡ false
   pub edition : editionBad s ≡ false
   pub total : anyOf (totalFaults s) ≡ false
-  pub places : anyOf (placesFaults (endStart s) (hasGrid s pdsStart) (hasBitmap s pdsStart) (placesOf s)) ≡ false
+  pub lengths : lengthsBad s ≡ false
   pub time : anyOf (timeFaults s pdsStart) ≡ false
   pub found : gridMissing (gridOf s) ≡ false
   pub gds : (hasGrid s pdsStart && gdsBad s (placesOf s .gds)) ≡ false
@@ -34,12 +38,12 @@ pub record Judged (s : List ℕ) (lent : Lent) : Type 0 where
   pub length : lengthBad s (placesOf s .bds) (presentCount s lent) (packingIn s) ≡ false
 
 pub rows-in-groups : RowsInGroups
-unfolding messageTable earlierRows layoutRows gridRows dataRows parsedOf
+unfolding messageTable walkOf walkRows sectionRows earlierRows layoutRows gridRows dataRows parsedOf
 rows-in-groups s lent = refl
 
 -- acceptance's number is no row's
 pub own-numbered : (s : List ℕ) (lent : Lent) → Numbered (messageTable s lent)
-unfolding messageTable
+unfolding messageTable walkOf walkRows sectionRows
 own-numbered s lent = tt
 
 pub read-numbered : (s : List ℕ) (lent : Lent) (values marks : List ℕ) → Numbered (readTable s lent values marks)
@@ -69,34 +73,41 @@ unfolding readRefusal
 read-zero s lent values marks = zero-of (readTable s lent values marks) (read-numbered s lent values marks)
 
 pub judged : (s : List ℕ) (lent : Lent) → Taken s lent → Judged s lent
-unfolding messageTable
+unfolding messageTable walkOf lengthsBad
 judged s lent t =
     let a = rows s lent t in
-    let b = a .1 .1 .1 .1 .1 .1 in
+    let w = clear-parts (walkOf s) _ (a .1 .1 .1 .1) in
+    let b = w .1 in
     record {
       size = a .0;
       mark = a .1 .0;
       edition = a .1 .1 .0;
       total = a .1 .1 .1 .0;
-      places = a .1 .1 .1 .1 .0;
-      time = a .1 .1 .1 .1 .1 .0;
-      found = b .0;
-      gds = b .1 .0;
-      grid = b .1 .1 .0;
-      bitmap = b .1 .1 .1 .0;
-      packing = b .1 .1 .1 .1 .0;
-      length = b .1 .1 .1 .1 .1 .0;
+      lengths = walk-as-row (endStart s) (hasGrid s pdsStart) (hasBitmap s pdsStart) (placesOf s) .0 (w .0);
+      time = b .0;
+      found = b .1 .0;
+      gds = b .1 .1 .0;
+      grid = b .1 .1 .1 .0;
+      bitmap = b .1 .1 .1 .1 .0;
+      packing = b .1 .1 .1 .1 .1 .0;
+      length = b .1 .1 .1 .1 .1 .1 .0;
     }
 
 pub unjudged : (s : List ℕ) (lent : Lent) → Judged s lent → ownRefusal s lent ≡ refusal 0
-unfolding ownRefusal messageTable
-unjudged s lent h = accepts (messageTable s lent) (
-  h .size,
-  (
-    h .mark,
-    (
-      h .edition,
-      (h .total, (h .places, (h .time, (h .found, (h .gds, (h .grid, (h .bitmap, (h .packing, (h .length, tt))))))))),
-    ),
-  ),
-)
+unfolding ownRefusal messageTable walkOf lengthsBad
+unjudged s lent h =
+    let w = walk-as-row (endStart s) (hasGrid s pdsStart) (hasBitmap s pdsStart) (placesOf s) .1 (h .lengths) in
+    accepts (messageTable s lent) (
+      h .size,
+      (
+        h .mark,
+        (
+          h .edition,
+          (
+            h .total,
+            clear-join (walkOf s) _ w
+                (h .time, (h .found, (h .gds, (h .grid, (h .bitmap, (h .packing, (h .length, tt))))))),
+          ),
+        ),
+      ),
+    )

@@ -11,6 +11,7 @@ pub mod Counts
 pub mod Charts
 pub mod Grids
 -- what a taken message is
+pub mod Walk
 pub mod Judged
 pub mod Sections
 pub mod Bounded

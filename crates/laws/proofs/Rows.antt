@@ -58,6 +58,10 @@ clear-parts (given r test ∷ a) b h =
     let k = clear-parts a b (h .1) in
     ((h .0, k .0), k .1)
 
+pub clear-join : (a b : List Row) → Clear a → Clear b → Clear (a ++ b)
+clear-join [] b h k = k
+clear-join (given r test ∷ a) b h k = (h .0, clear-join a b (h .1) k)
+
 -- rows that do not apply, in front of others
 pub first-after : (a b : List Row) → Clear a → first (a ++ b) ≡ first b
 unfolding first firstOr

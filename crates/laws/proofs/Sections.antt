@@ -11,9 +11,10 @@ use Rattle.rules.specs.declared.{Part.Part}
 use Rattle.rules.specs.Bounds.{messageMost, pdsLeast, pdsMost, gdsLeast, bmsLeast, bdsLeast}
 use Rattle.rules.specs.Numbers.{number}
 use Rattle.rules.specs.Table.{anyOf}
-use Rattle.rules.specs.Places.{after, endStart, pdsStart, hasGrid, hasBitmap, sizeBad, sectionFaults, placesFaults}
+use Rattle.rules.specs.Places.{after, endStart, pdsStart, hasGrid, hasBitmap, sizeBad}
 use Rattle.rules.specs.Places.{placesOf, sectionAt}
 use Rattle.rules.specs.Bitmap.{Lent}
+use Rattle.laws.specs.Lengths.{sectionFaults, placesFaults, lengthsBad}
 use Rattle.laws.specs.Taken.{Taken, ReadsInside}
 use Rattle.laws.proofs.Rows.{none-of, clash, is-true, is-eq, inside}
 use Rattle.laws.proofs.Judged.{judged}
@@ -46,9 +47,9 @@ pub record Sections (s : List ℕ) : Type 0 where
   pub end : placesOf s .bds .start + placesOf s .bds .len + 4 ≡ length s
 
 pub sections : (s : List ℕ) (lent : Lent) → Taken s lent → Sections s
-unfolding placesFaults placesOf sectionAt sizeBad
+unfolding lengthsBad placesFaults placesOf sectionAt sizeBad
 sections s lent t =
-    let h = none-of _ (judged s lent t .places) in
+    let h = none-of _ (judged s lent t .lengths) in
     let l = inside 8 messageMost (length s) (judged s lent t .size) .0 in
     let e : after (placesOf s .bds) ≡ endStart s = is-eq _ _ (h .1 .1 .1 .1 .1 .0) in
     record {

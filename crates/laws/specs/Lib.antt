@@ -2,6 +2,7 @@
 -- message, of a source field.
 pub mod Groups
 pub mod Tables
+pub mod Lengths
 pub mod Signs
 pub mod Marks
 pub mod Taken

@@ -1,14 +1,18 @@
-// Where the sections of a message lie, read off its octets whatever they are, and refusals 1 to 6. All total.
+// Where the sections of a message lie, read off its octets whatever they are, and refusals 1 to 6, with 20 to 23 of the
+// section lengths in the place of 5. All total.
+ghost use Prim.Native.Nat.{_<_};
 ghost use mathlib.Core.Path.{_≡_};
 ghost use Rattle.rules.specs.Table.{anyOf, firstOr};
 ghost use Rattle.rules.specs.Places.{pdsStart, endStart, hasGrid, hasBitmap, placesOf, sizeBad, gribBad, editionBad};
-ghost use Rattle.rules.specs.Places.{totalFaults, sectionFaults, placesFaults};
+ghost use Rattle.rules.specs.Places.{totalFaults};
+ghost use Rattle.rules.specs.Walk.{sectionRows, walkRows};
 ghost use Rattle.laws.specs.Groups.{layoutRows};
-ghost use Rattle.layout.specs.Parts.{SectionRead};
+ghost use Rattle.layout.specs.Parts.{SectionRead, PlacesFit};
 use octets::four;
 use octets::octet;
 use octets::three;
 use reply::refuse;
+use reply::refuse_at;
 use rules::Part;
 use rules::Places;
 use rules::Refusal;
@@ -102,35 +106,49 @@ fn total_bad(s: &[u8]) -> bool
     (three(s, 0, 5) as usize != s.len()) | (four(s, end_start(s), 1) != SEVENS)
 }
 
-// Refusal 5 of one section: its length's octets or itself pass the end section's start, or its length is odd or under
-// its least.
-fn section_bad(end: usize, least: u32, p: Part) -> bool
-    ensures { λ r. ⌜ r ≡ anyOf (sectionFaults end least p) ⌝ }
+// Refusals 20 to 22 of a section, by its number, and what is below them where none applies: its length's octets pass
+// the end section's start, its length is odd, is out of its bounds, or it passes that start itself. An unannounced one
+// has none.
+fn section_judged(
+    end: usize,
+    section: u32,
+    there: bool,
+    out: bool,
+    p: Part,
+    below: Refusal,
+) -> Refusal
+    requires { ⌜ p .start < 4294967295 ⌝ }
+    ensures { λ r. ⌜ r ≡ firstOr (sectionRows end section there out p) below ⌝ }
 {
-    (end < p.start as usize + 3)
-        | (p.len % 2 == 1)
-        | (p.len < least)
-        | (end < p.start as usize + p.len as usize)
+    let place = p.start + 1;
+    let passes = there & (end < p.start as usize + p.len as usize);
+    let last = refuse_at(22, section, place, passes, below);
+    let bounds = refuse_at(21, section, place, there & out, last);
+    let odd = refuse_at(20, section, place, there & (p.len % 2 == 1), bounds);
+    let cut = there & (end < p.start as usize + 3);
+    refuse_at(22, section, place, cut, odd)
 }
 
-// Refusal 5: a length is odd or out of its bounds, or the sections pass the end or fall short of it.
-fn places_bad(end: usize, grid: bool, bitmap: bool, p: Places) -> bool
-    ensures { λ r. ⌜ r ≡ anyOf (placesFaults end grid bitmap p) ⌝ }
+// Refusals 20 to 23: the walk from section to section, and what is below them where it stops nowhere.
+fn walk(end: usize, grid: bool, bitmap: bool, p: Places, below: Refusal) -> Refusal
+    requires { ⌜ PlacesFit p ⌝ }
+    ensures { λ r. ⌜ r ≡ firstOr (walkRows end grid bitmap p) below ⌝ }
 {
-    section_bad(end, PDS_LEAST, p.pds)
-        | (PDS_MOST < p.pds.len)
-        | (grid & section_bad(end, GDS_LEAST, p.gds))
-        | (bitmap & section_bad(end, BMS_LEAST, p.bms))
-        | section_bad(end, BDS_LEAST, p.bds)
-        | (p.bds.start as usize + p.bds.len as usize != end)
+    let left = p.bds.start + p.bds.len;
+    let over = refuse_at(23, 5, left + 1, (left as usize) < end, below);
+    let bds = section_judged(end, 4, true, p.bds.len < BDS_LEAST, p.bds, over);
+    let bms = section_judged(end, 3, bitmap, p.bms.len < BMS_LEAST, p.bms, bds);
+    let gds = section_judged(end, 2, grid, p.gds.len < GDS_LEAST, p.gds, bms);
+    let out = (p.pds.len < PDS_LEAST) | (PDS_MOST < p.pds.len);
+    section_judged(end, 1, true, out, p.pds, gds)
 }
 
-// Refusals 1 to 6 of a message whose sections lie at p, and what is below them where none applies.
-pub fn layout(s: &[u8], p: Places, below: Refusal) -> Refusal
-    ensures { λ r. ⌜ r ≡ firstOr (layoutRows (now (s .entry)) p) below ⌝ }
+// Refusals 1 to 6 of a message, 20 to 23 in the place of 5, and what is below them where none applies.
+pub fn layout(s: &[u8], below: Refusal) -> Refusal
+    ensures { λ r. ⌜ r ≡ firstOr (layoutRows (now (s .entry))) below ⌝ }
 {
-    let out = places_bad(end_start(s), has_grid(s), has_bitmap(s), p);
-    let late = refuse(5, out, refuse(6, time_bad(s, PDS_START), below));
+    let timed = refuse(6, time_bad(s, PDS_START), below);
+    let late = walk(end_start(s), has_grid(s), has_bitmap(s), places(s), timed);
     let early = refuse(3, edition_bad(s), refuse(4, total_bad(s), late));
     refuse(1, size_bad(s), refuse(2, grib_bad(s), early))
 }

@@ -64,7 +64,7 @@ roomy : (s t : List ℕ) → textRoom ≤ length t → listed s t ≡ listingOf 
 unfolding listed
 roomy s t h = rw (le-ltb (length t) textRoom h)
 
-pub too-long : (s t : List ℕ) → textRoom ≤ length t → listedMost < length s → listed s t ≡ refusedLine (refusal 1)
+pub too-long : (s t : List ℕ) → textRoom ≤ length t → listedMost < length s → listed s t ≡ refusedLine 1
 unfolding listingOf listingRefusal firstOr
 too-long s t h l = roomy s t h ∙ rw (lt-ltb listedMost (length s) l)
 
@@ -131,11 +131,11 @@ module _ (s a b : List ℕ) (h : Header) (size : length s ≤ listedMost) (la : 
       ∙ whole
 
   pub refused-is : (t : List ℕ) → textRoom ≤ length t → (h .refusal .number ≡ 0 → ⊥)
-      → listed s t ≡ refusedLine (refusal (h .refusal .number))
+      → listed s t ≡ refusedLine (h .refusal .number)
   unfolding listingOf
   refused-is t room z =
       let n : accepted (listingRefusal s) ≡ false = ne-eqb (listingRefusal s .number) 0 (λ q. z (ap (λ (x : Refusal). x .number) own ∙ q)) in
-      roomy s t room ∙ rw n (ap refusedLine (sym own))
+      roomy s t room ∙ rw n (ap (λ (x : Refusal). refusedLine (x .number)) (sym own))
 
   module _ (z : h .refusal .number ≡ 0) where
     taken : accepted (readRefusal s noStore a b) ≡ true

@@ -6,7 +6,6 @@ ghost use Prim.Native.Nat.{_+_, _≤_};
 ghost use lib.ListN.{length};
 ghost use Rattle.bits.specs.Bits.{placed};
 ghost use Rattle.rules.specs.Bounds.{listedRoom};
-ghost use Rattle.rules.specs.Table.{refusal};
 ghost use Rattle.rules.specs.Grid.{shapeOf, pointsOf};
 ghost use Rattle.rules.specs.Bitmap.{markOf};
 ghost use Rattle.rules.specs.Listing.{rowLines, firstLine, refusedLine};
@@ -71,7 +70,7 @@ fn first_line(text: &mut [u8], h: Header) -> usize
 // "A refusal prints `refused` and its number".
 fn refused(text: &mut [u8], number: u32) -> usize
     requires { ⌜ 88 ≤ length (now text) ⌝ }
-    ensures { λ r. ⌜ (Wrote (now (text .entry)) (now (text .exit)) 0 r (refusedLine (refusal number))) × (r ≤ 88) ⌝ }
+    ensures { λ r. ⌜ (Wrote (now (text .entry)) (now (text .exit)) 0 r (refusedLine number)) × (r ≤ 88) ⌝ }
 {
     let a = word(text, 0, b"refused");
     let b = letter(text, a, b' ');

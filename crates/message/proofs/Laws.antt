@@ -9,6 +9,7 @@ use Rattle.rules.specs.declared.{Refusal.Refusal, Parsed.Parsed, Header.Header}
 use Rattle.bits.specs.Bits.{count}
 use Rattle.rules.specs.Table.{row, refusal, firstOr, first, accepted}
 use Rattle.rules.specs.Places.{placesOf}
+use Rattle.rules.specs.Walk.{sectionRows, walkRows, walkOf}
 use Rattle.rules.specs.Bitmap.{Lent, inForce, bitmapOctets, presentBy}
 use Rattle.rules.specs.Values.{lengthBad}
 use Rattle.laws.proofs.Judged.{rows-in-groups}
@@ -20,17 +21,17 @@ use Rattle.laws.specs.Groups.{layoutRows, gridRows, dataRows, earlierRows}
 -- the stages of rows 1 to 11
 pub stages : (s : List ℕ) (lent : Lent) (q : Parsed) (none x y r : Refusal) → none ≡ refusal 0
     → x ≡ firstOr (dataRows s lent (q .places .bms) (q .bitmap) (q .points) (q .packing)) none
-    → y ≡ firstOr (gridRows s (q .places) (q .found)) x → r ≡ firstOr (layoutRows s (q .places)) y
+    → y ≡ firstOr (gridRows s (q .places) (q .found)) x → r ≡ firstOr (layoutRows s) y
     → r ≡ first (earlierRows s lent q)
 unfolding first earlierRows
 stages s lent q none x y r en ex ey er =
-    er ∙ ap (firstOr (layoutRows s (q .places)))
+    er ∙ ap (firstOr (layoutRows s))
     (ey ∙ ap (firstOr (gridRows s (q .places) (q .found)))
     (ex ∙ ap (firstOr (dataRows s lent (q .places .bms) (q .bitmap) (q .points) (q .packing))) en))
-    ∙ ap (firstOr (layoutRows s (q .places)))
+    ∙ ap (firstOr (layoutRows s))
     (sym (or-append (gridRows s (q .places) (q .found))
     (dataRows s lent (q .places .bms) (q .bitmap) (q .points) (q .packing)) (refusal 0)))
-    ∙ sym (or-append (layoutRows s (q .places))
+    ∙ sym (or-append (layoutRows s)
     (gridRows s (q .places) (q .found) ++ dataRows s lent (q .places .bms) (q .bitmap) (q .points) (q .packing))
     (refusal 0))
 
@@ -40,7 +41,7 @@ module _ (s : List ℕ) (lent : Lent) where
 
   own : (t : Bool) (r : Refusal) → t ≡ late → r ≡ first (earlierRows s lent (parsedOf s))
       → ownRefusal s lent ≡ cond (accepted r) (cond t (refusal 12) (refusal 0)) r
-  unfolding ownRefusal earlierRows layoutRows gridRows dataRows first firstOr
+  unfolding ownRefusal earlierRows layoutRows walkOf walkRows sectionRows gridRows dataRows first firstOr
   own t r e f =
       ap first (rows-in-groups s lent)
       ∙ or-append (earlierRows s lent (parsedOf s)) (row 12 late ∷ []) (refusal 0)

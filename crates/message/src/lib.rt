@@ -1,4 +1,4 @@
-// The header of a message: refusals 1 to 12 in stages, as one answer. All total.
+// The header of a message: refusals 1 to 12, with 20 to 23 in the place of 5, in stages, as one answer. All total.
 ghost use mathlib.Core.Path.{_≡_};
 ghost use Rattle.rules.specs.Table.{refusal, firstOr, first};
 ghost use Rattle.rules.specs.Reading.{parsedOf, foundBy, refusedBy, headerOf};
@@ -140,7 +140,7 @@ fn judge(s: &[u8], number: u16, store: &[u8], q: Parsed) -> Refusal
         q.packing,
         none,
     );
-    layout(s, places, grid_judged(s, places, found, last))
+    layout(s, grid_judged(s, places, found, last))
 }
 
 // The answer to a message that is taken, m points of which are present.

@@ -1,9 +1,10 @@
 // What is printed of an answer, one space before each thing.
 //
-// A refusal: its number; `zeros` where all else is zero; `kept` where the lists are as they were. An acceptance: 0;
-// points, present, Ni, Nj; D, E, R, N, flags; the bitmap's kind; year, month, day, hour, minute; La1, Lo1, resolution
-// flags, La2, Lo2, Di, Dj, scanning flags; of a thinned octant where its counts begin; row and column of the first two
-// points; the sum of values and marks; `kept` where the elements after n are as they were.
+// A refusal: its number; where it tells a section and a place, these; `zeros` where all else is zero; `kept` where the
+// lists are as they were. An acceptance: 0; points, present, Ni, Nj; D, E, R, N, flags; the bitmap's kind; year, month,
+// day, hour, minute; La1, Lo1, resolution flags, La2, Lo2, Di, Dj, scanning flags; of a thinned octant where its counts
+// begin; row and column of the first two points; the sum of values and marks; `kept` where the elements after n are as
+// they were.
 use crate::lists::marks_kept;
 use crate::lists::summed;
 use crate::lists::values_kept;
@@ -21,6 +22,7 @@ use rules::GridPoint;
 use rules::Header;
 use rules::Moment;
 use rules::Part;
+use rules::Refusal;
 use rules::Shape;
 use rules::Signed;
 
@@ -235,9 +237,18 @@ fn refused(h: Header, values: &[u32], marks: &[u8]) {
     lists(values, marks, 0);
 }
 
-// The whole answer: its number, and what goes with it.
+// A reply's number, and what it tells beside.
+fn reply(r: Refusal) {
+    whole(r.number);
+    if (r.section != 0) | (r.place != 0) {
+        whole(r.section);
+        whole(r.place);
+    }
+}
+
+// The whole answer: its reply, and what goes with it.
 pub(crate) fn answer(h: Header, values: &[u32], marks: &[u8]) {
-    number(h.refusal.number as u64);
+    reply(h.refusal);
     if h.refusal.number == 0 {
         taken(h, values, marks);
     } else {

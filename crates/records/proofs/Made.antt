@@ -20,6 +20,8 @@ pub header-made : (h : Header) (d e : ℤ) (kind : ℕ) (g : GridRecord) (pds gd
     → _≡_ {A = HeaderRecord}
     (record {
       reply = h .refusal .number;
+      section = h .refusal .section;
+      place = h .refusal .place;
       points = h .points;
       present = h .present;
       d = d;

@@ -1,5 +1,5 @@
 -- The records that the C face hands out: each field as a number of the answer in `rules`. The answer to a refusal has
--- zero in every field but its reply, and so has its record.
+-- zero in every field but its reply, and of 20 to 23 the section and the place, and so has its record.
 use Prim.Native.Nat.{ℕ}
 use mathlib.Core.Bool.{Bool, false, cond}
 use Rattle.rules.specs.declared.{Refusal.Refusal, Written.Written, Display.Display, Part.Part, Grid.Grid, Bitmap.Bitmap}
@@ -50,6 +50,8 @@ gridRecord g =
 abbrev pub headerRecord : Header → HeaderRecord
 headerRecord h = record {
   reply = h .refusal .number;
+  section = h .refusal .section;
+  place = h .refusal .place;
   points = h .points;
   present = h .present;
   d = h .d .value;
@@ -82,10 +84,17 @@ pointRecord (At k) = record { on = 1; point = k .0 }
 pointRecord Nowhere = record { on = 0; point = 0 }
 
 abbrev pub displayRecord : Display → DisplayRecord
-displayRecord d = record { reply = d .refusal .number; reference = d .reference; step = d .step }
+displayRecord d = record {
+  reply = d .refusal .number;
+  section = d .refusal .section;
+  place = d .refusal .place;
+  reference = d .reference;
+  step = d .step;
+}
 
+-- of a refusal by the writer or the packer the number is all that may not be zero (StopsToldAlone, `theorems`)
 abbrev pub writtenRecord : Written → WrittenRecord
 writtenRecord w = record { reply = w .refusal .number; len = w .len }
 
 abbrev pub checkRecord : Refusal → CheckRecord
-checkRecord r = record { reply = r .number }
+checkRecord r = record { reply = r .number; section = r .section; place = r .place }

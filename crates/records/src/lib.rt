@@ -49,6 +49,8 @@ pub struct GridRecord {
 #[repr(C)]
 pub struct HeaderRecord {
     pub reply: u32,
+    pub section: u32,
+    pub place: u32,
     pub points: u32,
     pub present: u32,
     pub d: i32,
@@ -86,6 +88,8 @@ pub struct PointRecord {
 #[repr(C)]
 pub struct DisplayRecord {
     pub reply: u32,
+    pub section: u32,
+    pub place: u32,
     pub reference: f64,
     pub step: f64,
 }
@@ -99,6 +103,8 @@ pub struct WrittenRecord {
 #[repr(C)]
 pub struct CheckRecord {
     pub reply: u32,
+    pub section: u32,
+    pub place: u32,
 }
 
 // A bitmap's kind as a number.
@@ -171,6 +177,8 @@ pub fn header_record(h: Header) -> HeaderRecord
     let places = h.places;
     HeaderRecord {
         reply: h.refusal.number,
+        section: h.refusal.section,
+        place: h.refusal.place,
         points: h.points,
         present: h.present,
         d: value(h.d),
@@ -221,18 +229,20 @@ pub fn point_record(pointed: Pointed) -> PointRecord
     }
 }
 
-// R and 2^E with their reply.
+// R and 2^E with their reply and what it tells.
 pub fn display_record(d: Display) -> DisplayRecord
     ensures { λ r. ⌜ r ≡ displayRecord d ⌝ }
 {
     DisplayRecord {
         reply: d.refusal.number,
+        section: d.refusal.section,
+        place: d.refusal.place,
         reference: d.reference,
         step: d.step,
     }
 }
 
-// The reply and the length of what was written.
+// The reply and the length of what was written; no reply of the writer or the packer tells a section.
 pub fn written_record(w: Written) -> WrittenRecord
     ensures { λ r. ⌜ r ≡ writtenRecord w ⌝ }
 {
@@ -242,11 +252,13 @@ pub fn written_record(w: Written) -> WrittenRecord
     }
 }
 
-// The check's reply.
+// The check's reply and what it tells.
 pub fn check_record(refusal: Refusal) -> CheckRecord
     ensures { λ r. ⌜ r ≡ checkRecord refusal ⌝ }
 {
     CheckRecord {
         reply: refusal.number,
+        section: refusal.section,
+        place: refusal.place,
     }
 }

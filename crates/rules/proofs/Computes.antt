@@ -23,7 +23,8 @@ use Rattle.rules.specs.Numbers.{bit, joined, signed}
 use Rattle.rules.specs.Packing.{lowest, reference, spellingOf, stepped, above, tooWide, exponent, packedAt}
 use Rattle.rules.specs.Packing.{packedParts, packTable, packRefusal, packOf, packedAfter}
 use Rattle.rules.specs.Places.{hasGrid, hasBitmap, sectionAt, placesOf, sectionsOf, sizeBad, gribBad, editionBad}
-use Rattle.rules.specs.Places.{totalFaults, sectionFaults, placesFaults}
+use Rattle.rules.specs.Places.{totalFaults}
+use Rattle.rules.specs.Walk.{sectionRows, walkRows, walkOf}
 use Rattle.rules.specs.Points.{dataNumber, valueAt, scattered, gathered}
 use Rattle.rules.specs.Reading.{gridIn, gridOf, pointsIn, bitmapIn, inForceIn, presentIn, presentCount, packingIn}
 use Rattle.rules.specs.Reading.{scaleIn, decimalIn, dataIn, valuesIn, marksIn}
@@ -39,7 +40,7 @@ use Rattle.rules.specs.Writing.{gridFor, pointsFor, pdsFaults, listsFit,
 use Rattle.rules.specs.Writing.{sectionsFor, message, writeTable, writeRefusal, lengthOf, writeOf, outputAfter}
 
 unfoldable pub computes : ℕ
-unfolding leadingZeros bitOf bitsIn run count runs join putAt packedInto numberAt tab anyBelow leastBelow bitmapAt lentFaults bitmapFaults noBitmap inForce bitmapOctets presentBy bmsOf total rowOf inRow beforeRow fromEquator countsOf turned spotOf pointOf spotAmong across pointAmong pointsOn rowsOn rowLong columnsOn spotOn pointOn charted pointed cellsAt cellsFields cellsFaults cellsStains tiles anyPresent sourceFaults sourceDiffers scaleFaults farFrom pointOut checkTable checkOf refBits stepBits shownReference shownStep displayTable displayOf gdsBad kindAt sameCounts startOf gridOfCells cellsBy gridAt gridFields gdsOf gridStains shapeOf geometryBy rectangles octants catalogue lookup gridFrom noGrid scanBad gridDiffers likeOne gridFaults numeral decimalDigits decimal decimalSigned hexDigits joinedTo line cell rowLine rowLines firstLine refusedLine listingRefusal listingOf bit joined signed lowest reference spellingOf stepped above tooWide exponent packedAt packedParts packTable packRefusal packOf packedAfter hasGrid hasBitmap sectionAt placesOf sectionsOf sizeBad gribBad editionBad totalFaults sectionFaults placesFaults dataNumber valueAt scattered gathered gridIn gridOf pointsIn bitmapIn inForceIn presentIn presentCount packingIn scaleIn decimalIn dataIn valuesIn marksIn parsedOf messageTable refusedBy foundBy foundIn ownRefusal answerBy headerOf readTable readRefusal readOf valuesAfter marksAfter bitmapOf sectionOf numberingOf partsIn stains canonical orAll anyOf firstOr first filled yearOf leap daysIn momentFaults momentAt noMoment timeFaults packingAt scaleAt flagsBad packingFaults lengthBad valuesAt bdsOf sizeOf whole wholeOf gridFor pointsFor pdsFaults listsFit storedFaults pointBad partsFaults sectionsFor message writeTable writeRefusal lengthOf writeOf outputAfter
+unfolding leadingZeros bitOf bitsIn run count runs join putAt packedInto numberAt tab anyBelow leastBelow bitmapAt lentFaults bitmapFaults noBitmap inForce bitmapOctets presentBy bmsOf total rowOf inRow beforeRow fromEquator countsOf turned spotOf pointOf spotAmong across pointAmong pointsOn rowsOn rowLong columnsOn spotOn pointOn charted pointed cellsAt cellsFields cellsFaults cellsStains tiles anyPresent sourceFaults sourceDiffers scaleFaults farFrom pointOut checkTable checkOf refBits stepBits shownReference shownStep displayTable displayOf gdsBad kindAt sameCounts startOf gridOfCells cellsBy gridAt gridFields gdsOf gridStains shapeOf geometryBy rectangles octants catalogue lookup gridFrom noGrid scanBad gridDiffers likeOne gridFaults numeral decimalDigits decimal decimalSigned hexDigits joinedTo line cell rowLine rowLines firstLine refusedLine listingRefusal listingOf bit joined signed lowest reference spellingOf stepped above tooWide exponent packedAt packedParts packTable packRefusal packOf packedAfter hasGrid hasBitmap sectionAt placesOf sectionsOf sizeBad gribBad editionBad totalFaults sectionRows walkRows walkOf dataNumber valueAt scattered gathered gridIn gridOf pointsIn bitmapIn inForceIn presentIn presentCount packingIn scaleIn decimalIn dataIn valuesIn marksIn parsedOf messageTable refusedBy foundBy foundIn ownRefusal answerBy headerOf readTable readRefusal readOf valuesAfter marksAfter bitmapOf sectionOf numberingOf partsIn stains canonical orAll anyOf firstOr first filled yearOf leap daysIn momentFaults momentAt noMoment timeFaults packingAt scaleAt flagsBad packingFaults lengthBad valuesAt bdsOf sizeOf whole wholeOf gridFor pointsFor pdsFaults listsFit storedFaults pointBad partsFaults sectionsFor message writeTable writeRefusal lengthOf writeOf outputAfter
 computes = 0
 
 -- document 01, "Specimen, 94 octets"

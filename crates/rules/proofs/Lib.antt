@@ -2,6 +2,7 @@ pub mod Computes
 pub mod Specimen
 pub mod Marked
 pub mod Replies
+pub mod Stops
 pub mod Absent
 pub mod Octants
 pub mod Misreadings

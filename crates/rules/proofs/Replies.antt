@@ -27,7 +27,7 @@ empty : headerOf [] nothing ≡ refusedBy (refusal 1)
 unfolding computes
 empty = refl
 
--- reading: 1 to 12 (7 by taking GDS and BMS out)
+-- reading: 1 to 12, in the place of 5 one of 20 to 23 (7 by taking GDS and BMS out)
 abbrev replyTo : List ℕ → ℕ
 replyTo s = headerOf s nothing .refusal .number
 
@@ -48,7 +48,7 @@ reading : map replyTo
     ∷ set specimen 86 25
     ∷ set specimen 79 13
     ∷ [])
-    ≡ 1 ∷ 2 ∷ 3 ∷ 4 ∷ 5 ∷ 6 ∷ 7 ∷ 8 ∷ 9 ∷ 10 ∷ 11 ∷ 12 ∷ []
+    ≡ 1 ∷ 2 ∷ 3 ∷ 4 ∷ 20 ∷ 6 ∷ 7 ∷ 8 ∷ 9 ∷ 10 ∷ 11 ∷ 12 ∷ []
 unfolding computes
 reading = refl
 

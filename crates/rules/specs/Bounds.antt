@@ -10,7 +10,7 @@ messageLeast = 8
 abbrev pub messageMost : ℕ
 messageMost = 262144
 
--- PDS length, and the least lengths of the other sections (refusal 5)
+-- PDS length, and the least lengths of the other sections (refusal 21, and 5 of the writer)
 abbrev pub pdsLeast : ℕ
 pdsLeast = 28
 

@@ -1,4 +1,5 @@
--- The meaning of document 01, a file for each of its parts, in its order, with R-1 of document 02 where it amends them.
+-- The meaning of document 01, a file for each of its parts, in its order, with R-1 and R-2 of document 02 where they
+-- amend them.
 -- How names end (docs/GLOSSARY.md has the exceptions). At: read at a place of the octets, or at a point. In: what a
 -- message says, of its octets and the lent bitmap. Of: the answer of a public function (headerOf, writeOf), or of one
 -- thing another that follows from it. By: as the first argument decides. For: what the writer makes for the parts
@@ -10,6 +11,7 @@ pub mod Bounds
 pub mod Numbers
 pub mod Table
 pub mod Places
+pub mod Walk
 pub mod Time
 pub mod Counts
 pub mod Chart

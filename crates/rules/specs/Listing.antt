@@ -101,9 +101,9 @@ firstLine h =
     ∷ decimal (h .packing .bits)
     ∷ [])
 
--- "A refusal prints `refused` and its number"
-unfoldable pub refusedLine : Refusal → List ℕ
-refusedLine r = lineOf (refusedWord ∷ decimal (r .number) ∷ [])
+-- "A refusal prints `refused` and its number", whatever else it tells
+unfoldable pub refusedLine : ℕ → List ℕ
+refusedLine n = lineOf (refusedWord ∷ decimal n ∷ [])
 
 -- "longer: reply 1", "more: reply 14"
 unfoldable pub listingRefusal : List ℕ → Refusal
@@ -117,4 +117,4 @@ listingOf s =
     let r = listingRefusal s in
     let h = foundIn s noStore in
     cond (accepted r) (firstLine h ++ rowLines (presentIn s noStore) (valuesIn s noStore) (shapeOf (h .grid)))
-    (refusedLine r)
+    (refusedLine (r .number))

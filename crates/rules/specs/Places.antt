@@ -1,14 +1,13 @@
--- Document 01, "Layout": where the sections lie, read off the octets whatever they are, and refusals 1 to 5.
-use Prim.Native.Nat.{ℕ, _+_, _-_, _%_}
-use mathlib.Core.Bool.{Bool, true, not, _&&_, cond}
+-- Document 01, "Layout": where the sections lie, read off the octets whatever they are, and refusals 1 to 4.
+use Prim.Native.Nat.{ℕ, _+_, _-_}
+use mathlib.Core.Bool.{Bool, true, not, cond}
 use mathlib.Core.List.{List, [], _∷_}
 use lib.ListN.{length, take, drop}
 use mathlib.Core.Path.{_≡_}
-use lib.Dec.{ltb, eqb}
+use lib.Dec.{eqb}
 use denote.Ref.{RefT, now, ptr}
 use Rattle.rules.specs.declared.{Part.Part, Places.Places}
-use Rattle.rules.specs.Bounds.{messageLeast, messageMost, pdsLeast, pdsMost, gdsLeast, bmsLeast, bdsLeast}
-use Rattle.rules.specs.Table.{anyOf}
+use Rattle.rules.specs.Bounds.{messageLeast, messageMost}
 use Rattle.rules.specs.Numbers.{octet, bit, number, notWithin}
 
 -- the octets of a part
@@ -86,18 +85,3 @@ editionBad s = not (eqb (octet s 0 8) 1)
 -- 4: "total length is not the slice's, or last four octets not '7777'"
 unfoldable pub totalFaults : List ℕ → List Bool
 totalFaults s = not (eqb (number s 0 5 7) (length s)) ∷ not (eqb (number s (endStart s) 1 4) sevens) ∷ []
-
--- 5: "a section length is odd or under its least .., a length's octets or its section passes the end section's start"
-unfoldable pub sectionFaults : ℕ → ℕ → Part → List Bool
-sectionFaults end least p = ltb end (p .start + 3) ∷ eqb (p .len % 2) 1 ∷ ltb (p .len) least ∷ ltb end (after p) ∷ []
-
--- "PDS over 1,024, .. or the sections don't reach it exactly"
-unfoldable pub placesFaults : ℕ → Bool → Bool → Places → List Bool
-placesFaults end grid bitmap p =
-    anyOf (sectionFaults end pdsLeast (p .pds))
-    ∷ ltb pdsMost (p .pds .len)
-    ∷ (grid && anyOf (sectionFaults end gdsLeast (p .gds)))
-    ∷ (bitmap && anyOf (sectionFaults end bmsLeast (p .bms)))
-    ∷ anyOf (sectionFaults end bdsLeast (p .bds))
-    ∷ not (eqb (after (p .bds)) end)
-    ∷ []

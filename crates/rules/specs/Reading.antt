@@ -12,8 +12,9 @@ use Rattle.rules.specs.declared.{Header.Header}
 use Rattle.bits.specs.Bits.{count}
 use Rattle.rules.specs.Numbers.{plain, decimalAt}
 use Rattle.rules.specs.Table.{Row, row, anyOf, first, refusal, answered, filled}
-use Rattle.rules.specs.Places.{noPart, pdsStart, endStart, hasGrid, hasBitmap, placesOf, sectionsOf, sizeBad}
-use Rattle.rules.specs.Places.{gribBad, editionBad, totalFaults, placesFaults}
+use Rattle.rules.specs.Places.{noPart, pdsStart, hasGrid, hasBitmap, placesOf, sectionsOf, sizeBad}
+use Rattle.rules.specs.Places.{gribBad, editionBad, totalFaults}
+use Rattle.rules.specs.Walk.{walkOf}
 use Rattle.rules.specs.Time.{momentAt, noMoment, timeFaults}
 use Rattle.rules.specs.Grid.{gridAt, gridFrom, gridMissing, noGrid, theGrid, gdsBad, pointsOf, gridFaults}
 use Rattle.rules.specs.Bitmap.{Lent, bitmapAt, bitmapFaults, InForce, inForce, noBitmap, bitmapOctets, presentBy}
@@ -64,7 +65,7 @@ valuesIn s lent = scattered (presentIn s lent) (dataIn s lent) (pointsIn s)
 unfoldable pub marksIn : List ℕ → Lent → List ℕ
 marksIn s lent = marksOf (presentIn s lent) (pointsIn s)
 
--- the reader's table, "1 to 12": each row with the words of document 01
+-- the reader's table, "1 to 12", which "includes" 20 to 23: each row with the words of document 01
 unfoldable pub messageTable : List ℕ → Lent → List Row
 messageTable s lent =
     -- "slice below 8 or above 262,144 octets"
@@ -75,10 +76,10 @@ messageTable s lent =
     ∷ row 3 (editionBad s)
     -- "total length is not the slice's, or last four octets not '7777'"
     ∷ row 4 (anyOf (totalFaults s))
-    -- "a section length is odd or under its least .., or the sections don't reach it exactly"
-    ∷ row 5 (anyOf (placesFaults (endStart s) (hasGrid s pdsStart) (hasBitmap s pdsStart) (placesOf s)))
+    -- R-2: "5 becomes 20 to 23 in that order, section by section from the front, where 5 stood"
+    ∷ walkOf s
     -- "time out of its ranges"
-    ∷ row 6 (anyOf (timeFaults s pdsStart))
+    ++ (row 6 (anyOf (timeFaults s pdsStart))
     -- "no GDS, octet 7 not in the catalogue"
     ∷ row 7 (gridMissing (gridOf s))
     -- "GDS length or octets 4 to 6 not as above"; R-1: "8 admits this length and octet 5"
@@ -92,7 +93,7 @@ messageTable s lent =
     ∷ row 11 (anyOf (packingFaults (packingIn s)))
     -- "data length rule broken"
     ∷ row 12 (lengthBad s (placesOf s .bds) (presentCount s lent) (packingIn s))
-    ∷ []
+    ∷ [])
 
 -- what is read before it is judged
 unfoldable pub parsedOf : List ℕ → Parsed

@@ -5,7 +5,7 @@ pub const MESSAGE_LEAST: usize = 8;
 
 pub const MESSAGE_MOST: usize = 262144;
 
-// The least length of each section, and the most of a PDS (refusal 5).
+// The least length of each section, and the most of a PDS (refusal 21, and 5 of the writer).
 pub const PDS_LEAST: u32 = 28;
 
 pub const PDS_MOST: u32 = 1024;

@@ -1,11 +1,15 @@
-// The records that every part of the codec shares, and, in specs/, what document 01 means, as R-1 of document 02 amends
-// it. All records go by value; a refused answer has zero in every other field.
+// The records that every part of the codec shares, and, in specs/, what document 01 means, as R-1 and R-2 of document
+// 02 amend it. All records go by value; a refused answer has zero in every other field.
 
 pub mod bounds;
 
-// A reply: 0 is acceptance, any other number stands in the table of refusals.
+// A reply: 0 is acceptance, any other number stands in the table of refusals. Of a section length that is refused (20
+// to 23) the section's number, and the place in the message of its first octet, or of the first octet left over,
+// counted from 1; else both are 0.
 pub struct Refusal {
     pub number: u32,
+    pub section: u32,
+    pub place: u32,
 }
 
 // A field of a sign bit and a magnitude.

@@ -4,7 +4,6 @@ use Prim.Native.Nat.{ℕ, _≤_}
 use mathlib.Core.Bool.{Bool, true, false, cond}
 use mathlib.Core.Path.{_≡_, refl, sym, subst, _∙_, ap}
 use mathlib.Core.List.{List}
-use borrow.Author.Tests.{eqb-true}
 use lib.Dec.{T}
 use lib.ListN.{length}
 use Rattle.rules.specs.declared.{Refusal.Refusal}
@@ -16,6 +15,7 @@ use Rattle.rules.specs.Writing.{lengthOf, writeRefusal, writeOf, outputAfter}
 use Rattle.rules.specs.Checking.{checkOf}
 use Rattle.rules.specs.Packing.{packRefusal, packOf, packedAfter}
 use Rattle.laws.proofs.Rows.{is-true}
+use Rattle.laws.proofs.Judged.{read-zero}
 use Rattle.theorems.proofs.Replies.{refusal-keeps}
 use Rattle.theorems.proofs.Told.{read-tells}
 use Rattle.theorems.proofs.Returned.{read-after-write}
@@ -30,20 +30,20 @@ use Rattle.standins.specs.Codec.{PacksExactly, Meets}
 use Rattle.standins.specs.Standins.{ours}
 
 -- a header has the reply that it was answered by
-told-reply : (r : Refusal) (s : List ℕ) (lent : Lent) → answerBy r s lent .refusal ≡ r
+told-reply : (r : Refusal) → (accepted r ≡ true → r ≡ refusal 0) → (s : List ℕ) (lent : Lent)
+    → answerBy r s lent .refusal ≡ r
 unfolding answerBy foundIn foundBy refusedBy
-told-reply r s lent = go (accepted r) refl
+told-reply r z s lent = go (accepted r) refl
   where
     go : (b : Bool) → accepted r ≡ b → cond (accepted r) (foundIn s lent) (refusedBy r) .refusal ≡ r
     go true e =
-        ap (λ (b : Bool). cond b (foundIn s lent) (refusedBy r) .refusal) e
-        ∙ ap refusal (sym (eqb-true (r .number) 0 e))
+        ap (λ (b : Bool). cond b (foundIn s lent) (refusedBy r) .refusal) e ∙ sym (z e)
     go false e = ap (λ (b : Bool). cond b (foundIn s lent) (refusedBy r) .refusal) e
 
 module _ (s : List ℕ) (lent : Lent) (values marks : List ℕ) where
   read-reply : readOf s lent values marks .refusal ≡ readRefusal s lent values marks
   unfolding readOf
-  read-reply = told-reply (readRefusal s lent values marks) s lent
+  read-reply = told-reply (readRefusal s lent values marks) (read-zero s lent values marks) s lent
 
   read-by : T (accepted (readOf s lent values marks .refusal)) → T (accepted (readRefusal s lent values marks))
   read-by = subst (λ (r : Refusal). T (accepted r)) read-reply

@@ -24,7 +24,7 @@ use Rattle.rules.specs.Bounds.{messageLeast, messageMost}
 use Rattle.rules.specs.Numbers.{octet, bit, number, signed, notWithin}
 use Rattle.rules.specs.Table.{anyOf}
 use Rattle.rules.specs.Places.{octetsOf, grib, sevens, pdsStart, endStart, hasGrid, hasBitmap, sectionAt, placesOf}
-use Rattle.rules.specs.Places.{sizeBad, gribBad, editionBad, totalFaults, placesFaults}
+use Rattle.rules.specs.Places.{sizeBad, gribBad, editionBad, totalFaults}
 use Rattle.rules.specs.Time.{momentFaults, timeFaults}
 use Rattle.rules.specs.Columns.{Sort, carried, side, latitude, longitude, reserved as kept, Column, columnAt, cellOf}
 use Rattle.rules.specs.Columns.{cellsAt}
@@ -36,6 +36,7 @@ use Rattle.rules.specs.Values.{packingAt, scaleAt, packingFaults, lengthBad, va
 use Rattle.rules.specs.Reading.{gridIn, gridOf, pointsIn, bitmapIn, inForceIn, presentIn, presentCount, packingIn}
 use Rattle.rules.specs.Reading.{scaleIn, dataIn, valuesIn, marksIn}
 use Rattle.rules.specs.RoundTrip.{partsIn}
+use Rattle.laws.specs.Lengths.{placesFaults, lengthsBad}
 use Rattle.laws.specs.Taken.{Taken}
 use Rattle.theorems.specs.Returns.{Below, Ignored, reserved, bitmap, padding, PaddingIgnored}
 use Rattle.bits.proofs.Tests.{both}
@@ -475,13 +476,13 @@ module _ (s o : List ℕ) (lent : Lent) (ws : Below 256 s) (wo : Below 256 o) (l
       ∙ j .time
 
   passes : Judged o lent
-  unfolding sizeBad gribBad editionBad lengthBad
+  unfolding sizeBad gribBad editionBad lengthsBad lengthBad
   passes = record {
     size = ap (notWithin messageLeast messageMost) len ∙ j .size;
     mark = ap (λ (x : ℕ). not (eqb x grib)) (front-bits 0 32 (omega (arith, pds-least))) ∙ j .mark;
     edition = ap (λ (x : ℕ). not (eqb x 1)) (pds-octet 7 (omega arith)) ∙ j .edition;
     total = total-passes;
-    places = (λ i. anyOf (placesFaults (len i - 4) (grid-there i) (bitmap-there i) (places-same i))) ∙ j .places;
+    lengths = (λ i. anyOf (placesFaults (len i - 4) (grid-there i) (bitmap-there i) (places-same i))) ∙ j .lengths;
     time = time-passes;
     found = ap gridMissing grid-of ∙ j .found;
     gds = gds-passes;

@@ -16,8 +16,9 @@ use Rattle.rules.specs.Bounds.{messageLeast, messageMost, pdsLeast, pdsMost, gd
 use Rattle.rules.specs.Numbers.{Field, field, laid, bit, number}
 use Rattle.rules.specs.Table.{anyOf}
 use Rattle.rules.specs.Places.{octetsOf, after, grib, sevens, pdsStart, endStart, hasGrid, hasBitmap, sectionAt}
-use Rattle.rules.specs.Places.{placesOf, sizeBad, gribBad, editionBad, totalFaults, sectionFaults, placesFaults}
+use Rattle.rules.specs.Places.{placesOf, sizeBad, gribBad, editionBad, totalFaults}
 use Rattle.rules.specs.Time.{yearOf, momentAt, timeFaults, momentFaults}
+use Rattle.laws.specs.Lengths.{sectionFaults, placesFaults, lengthsBad}
 use Rattle.laws.proofs.Rows.{any-none, clash, gated, not-eq, outside-no}
 use Rattle.laws.proofs.Fields.{get-at, Back, all-back, after-fields, laid-length}
 
@@ -196,9 +197,9 @@ module _ (s p g m d : List ℕ) (h : Laid s p g m d) where
       let f = all-back s (length s - 4) 0 ending [] (ap (λ (k : ℕ). drop k s) (add-zero (length s - 4) ∙ e) ∙ at-end) (omega arith, tt) in
       any-none _ (not-eq _ _ (heads .2 .0), (not-eq _ _ (f .0), tt))
 
-  pub places-none : anyOf (placesFaults (endStart s) (hasGrid s pdsStart) (hasBitmap s pdsStart) (placesOf s)) ≡ false
-  unfolding placesFaults
-  places-none =
+  pub lengths-none : lengthsBad s ≡ false
+  unfolding lengthsBad placesFaults
+  lengths-none =
       let e : endStart s ≡ 8 + length p + length g + length m + length d = omega (arith, size) in
       ap (λ (x : Places). anyOf (placesFaults (endStart s) (hasGrid s pdsStart) (hasBitmap s pdsStart) x)) laid-places
       ∙ any-none _ (

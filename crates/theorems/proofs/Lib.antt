@@ -1,6 +1,10 @@
 -- The proofs, from the general to the particular.
 -- tables, fields and numbers
 pub mod Replies
+pub mod Among
+pub mod Stops
+pub mod FiveSplit
+pub mod StopPlaces
 pub mod Lists
 pub mod Tiles
 -- the sections, each laid, read back and laid again

@@ -1,14 +1,12 @@
 -- What the packer replies: 19 exactly when the rows above it pass and no E fits, since no other row has that number;
 -- and by each number once, since what the writer's 5 and 11 ask has passed before.
 use Prim.Native.Nat.{ℕ}
-use mathlib.Core.Bool.{Bool, true, false, not, _&&_, cond}
+use mathlib.Core.Bool.{Bool, true, false, cond}
 use mathlib.Core.Path.{_≡_, refl, subst, _∙_, ap}
-use mathlib.Core.Logic.{inl, inr}
 use mathlib.Core.List.{List, [], _∷_}
 use native.Mathlib.Omega.{arith}
-use borrow.Author.Tests.{ltb-true, ltb-false, lt-ltb, eqb-false, not-true}
-use lib.Dec.{T, ltb, eqb}
-use lib.Ieee.Fits.{and-l, and-r}
+use borrow.Author.Tests.{ltb-true, ltb-false, lt-ltb, eqb-false}
+use lib.Dec.{ltb, eqb}
 use lib.IntN.{pos}
 use lib.Signed.{ltZ}
 use Rattle.rules.specs.declared.{Refusal.Refusal, Form.Form}
@@ -25,8 +23,9 @@ use Rattle.rules.specs.Packing.{exponent, packedParts, packTable, packRefusal}
 use Rattle.theorems.specs.Replies.{Among, onceTable, PackerOnce}
 use Rattle.theorems.specs.Checks.{NothingFits, NoStepReply}
 use Rattle.bits.proofs.Tests.{or-false}
-use Rattle.laws.proofs.Rows.{none-of, any-none, is-true}
+use Rattle.laws.proofs.Rows.{none-of, any-none}
 use Rattle.theorems.proofs.Replies.{reply-among}
+use Rattle.theorems.proofs.Among.{not-among}
 use Rattle.laws.proofs.Whole.{ltZ-antisym, beyond-no}
 use Rattle.laws.proofs.Sources.{well-formed, formed-well}
 use Rattle.theorems.proofs.Steps.{no-step-fits}
@@ -43,15 +42,6 @@ this-row : (n : ℕ) (test : Bool) (below : Refusal) → (below ≡ refusal n �
     → test ≡ true
 this-row n true below h e = refl
 this-row n false below h e = absurd (h e)
-
-abbrev lacks : ℕ → List ℕ → Bool
-lacks n [] = true
-lacks n (x ∷ xs) = not (eqb n x) && lacks n xs
-
-not-among : (n : ℕ) (xs : List ℕ) → T (lacks n xs) → Among n xs → ⊥
-not-among n [] h a = a
-not-among n (x ∷ xs) h (inl e) = eqb-false n x (not-true (eqb n x) (is-true _ (and-l (not (eqb n x)) (lacks n xs) h))) e
-not-among n (x ∷ xs) h (inr a) = not-among n xs (and-r (not (eqb n x)) (lacks n xs) h) a
 
 no-19 : (w : Parts) (out : List ℕ) → first (writeTable w out) ≡ refusal 19 → ⊥
 unfolding writeTable

@@ -32,7 +32,7 @@ use Rattle.laws.proofs.Judged.{unjudged}
 use Rattle.laws.proofs.Fields.{laid-length}
 use Rattle.theorems.proofs.Laid.{Sec, ahead, ending, body, length-body, laidPlaces, Laid, at-g, at-m, at-d}
 use Rattle.theorems.proofs.Laid.{pds-octet, same-grid, same-bitmap, laid-places, size-none, mark-none}
-use Rattle.theorems.proofs.Laid.{edition-none, total-none, places-none, time-none, pds-back}
+use Rattle.theorems.proofs.Laid.{edition-none, total-none, lengths-none, time-none, pds-back}
 use Rattle.theorems.proofs.GridSection.{FoundOk, found-ok, found-sec, found-most, found-back, found-none}
 use Rattle.theorems.proofs.GridSection.{from-same}
 use Rattle.laws.proofs.Gathered.{length-gathered, scattered-back, marks-back}
@@ -219,7 +219,7 @@ module _ (w : Parts) (out : List ℕ) (gf : FoundFits (w .form .grid)) (nf : Num
         mark = mark-none s p g m d h;
         edition = edition-none s p g m d h;
         total = total-none s p g m d h;
-        places = places-none s p g m d h;
+        lengths = lengths-none s p g m d h;
         time = time-none s p g m d h (told .time);
         found = ap gridMissing grid-of ∙ told .found;
         gds = (λ i. grid-there i && gdsBad s (places i .gds))

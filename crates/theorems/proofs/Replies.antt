@@ -15,6 +15,7 @@ use Rattle.rules.specs.declared.{Refusal.Refusal, Form.Form}
 use Rattle.rules.specs.Table.{Row, given, refusal, accepted, firstOr, first, answered, filled}
 use Rattle.rules.specs.Reading.{messageTable, ownRefusal, answerBy, headerOf, readTable, readRefusal, readOf, bitmapOf}
 use Rattle.rules.specs.Reading.{numberingOf}
+use Rattle.rules.specs.Walk.{sectionRows, walkRows, walkOf}
 use Rattle.rules.specs.Bitmap.{Lent}
 use Rattle.rules.specs.Display.{displayTable, displayOf}
 use Rattle.rules.specs.Writing.{Parts, lengthOf, writeTable, writeRefusal, writeOf}
@@ -73,7 +74,7 @@ reply-among [] = inl refl
 reply-among (given r test ∷ rows) = among-on test r (first rows) (numbers rows) (reply-among rows)
 
 pub row-numbers : RowNumbers
-unfolding displayTable readTable checkTable writeTable packTable messageTable
+unfolding displayTable readTable checkTable writeTable packTable messageTable walkOf walkRows sectionRows
 row-numbers = record {
   reader = λ s lent. refl;
   lists = λ s lent values marks. refl;

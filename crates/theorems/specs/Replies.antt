@@ -44,11 +44,18 @@ Among n (x ∷ xs) = (n ≡ x) ⊎ Among n xs
 abbrev pub ReplyAmong : Type 0
 ReplyAmong = (rows : List Row) → Among (first rows .number) (0 ∷ numbers rows)
 
--- the reader's rows are 1 to 12; "Checker: 1 to 12, then 18, 15, 16, 17"; "The writer never gives 1 to 4, 8 or 12";
--- "Packer: 5, 18, 15 .., 11, 19, then the rest of the writer's"
+-- the rows at one section of the walk (R-2): "a length whose own octets don't fit is 22", and 20 to 22
+abbrev pub sectionNumbers : List ℕ
+sectionNumbers = 22 ∷ 20 ∷ 21 ∷ 22 ∷ []
+
+-- the reader's rows are 1 to 12, with the walk's 20 to 23 "section by section from the front, where 5 stood"; "Checker:
+-- 1 to 12, then 18, 15, 16, 17"; "The writer never gives 1 to 4, 8 or 12"; "Packer: 5, 18, 15 .., 11, 19, then the rest
+-- of the writer's"
 pub record RowNumbers : Type 0 where
   pub reader : (s : List ℕ) (lent : Lent)
-      → numbers (messageTable s lent) ≡ 1 ∷ 2 ∷ 3 ∷ 4 ∷ 5 ∷ 6 ∷ 7 ∷ 8 ∷ 9 ∷ 10 ∷ 11 ∷ 12 ∷ []
+      → numbers (messageTable s lent) ≡ 1 ∷ 2 ∷ 3 ∷ 4
+      ∷ sectionNumbers ++ (sectionNumbers ++ (sectionNumbers ++ (sectionNumbers
+      ++ (23 ∷ 6 ∷ 7 ∷ 8 ∷ 9 ∷ 10 ∷ 11 ∷ 12 ∷ []))))
   pub lists : (s : List ℕ) (lent : Lent) (values marks : List ℕ)
       → numbers (readTable s lent values marks) ≡ numbers (messageTable s lent) ++ (14 ∷ [])
   pub display : (s : List ℕ) (lent : Lent) → numbers (displayTable s lent) ≡ numbers (messageTable s lent) ++ (16 ∷ [])

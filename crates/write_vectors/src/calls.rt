@@ -54,7 +54,7 @@ fn write(fields: &[u8], pds: &[u8], store: &[u8], values: &[u32], marks: &[u8], 
 // The check's reply.
 fn check(fields: &[u8], s: &[u8], store: &[u8], numbers: &[i32], marks: &[u8]) {
     let r = checker::check(s, number(fields), store, numbers, marks, decimal(fields));
-    line::number(r.number);
+    line::reply(r);
 }
 
 // Of a packed message E and R, and the check of it against its own source.

@@ -3,10 +3,11 @@
 // A refusal by the writer or the packer: its number, 0 octets, `kept` where the lent ones are as they were. A message:
 // 0; its length; its octets as one number; `kept` where the octets after it are as they were; of a written one `back`
 // where reading it gives the parts, values and marks back; of a packed one E, R and the check's reply. The check: its
-// reply.
+// reply. Where a reply tells a section and a place, they stand after it.
 use crate::output::output_kept;
 use crate::output::summed;
 use libc::STDOUT_FILENO;
+use rules::Refusal;
 use rules::Scale;
 use rules::Signed;
 use rules::Written;
@@ -48,9 +49,18 @@ pub(crate) fn scale(c: Scale) {
     hex(c.r);
 }
 
+// A reply's number, and what it tells beside.
+pub(crate) fn reply(r: Refusal) {
+    number(r.number);
+    if (r.section != 0) | (r.place != 0) {
+        number(r.section);
+        number(r.place);
+    }
+}
+
 // The reply and the length.
 pub(crate) fn written(w: Written) {
-    number(w.refusal.number);
+    reply(w.refusal);
     number(w.len);
 }
 

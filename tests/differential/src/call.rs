@@ -2,7 +2,7 @@
 
 use second_reading as rules;
 use second_reading::grid::{from_catalogue, points};
-use second_reading::{BitmapKind, DataNumber, Form, Grid, Header, Lent, Part, Parts, Rows, Source};
+use second_reading::{BitmapKind, DataNumber, Form, Grid, Header, Lent, Part, Parts, Reply, Rows, Source};
 
 /// The functions by the driver's numbers.
 const HEADER: u32 = 0;
@@ -24,8 +24,8 @@ pub struct Call {
     pub what: String,
     pub asked: Vec<u8>,
     pub expected: Vec<u8>,
-    /// The reply expected, where the function gives one.
-    pub reply: Option<u32>,
+    /// The reply expected, where the function gives one; the writer's and the packer's without section and place.
+    pub reply: Option<Reply>,
 }
 
 #[derive(Default)]
@@ -77,9 +77,14 @@ impl Octets {
         self.words(&[stored as u32, p.start, p.len])
     }
 
+    fn reply(&mut self, reply: Reply) -> &mut Octets {
+        self.words(&[reply.number, reply.section, reply.place])
+    }
+
     fn header(&mut self, h: &Header) -> &mut Octets {
         let (kind, number) = bitmap_numbers(h.bitmap);
-        self.words(&[h.reply, h.points, h.present, h.d as u32, h.e as u32, h.r, kind])
+        self.reply(h.told())
+            .words(&[h.points, h.present, h.d as u32, h.e as u32, h.r, kind])
             .grid(&h.grid)
             .part(false, h.places.pds)
             .part(false, h.places.gds)
@@ -143,7 +148,7 @@ pub fn header(message: &[u8], lent: &Lent) -> (Header, Call) {
         what: "header".into(),
         asked: asked(HEADER, message, lent).0,
         expected: Octets::default().header(&h).kept(),
-        reply: Some(h.reply),
+        reply: Some(h.told()),
     };
     (h, call)
 }
@@ -155,7 +160,7 @@ pub fn read(message: &[u8], lent: &Lent, values: &[u32], marks: &[u8]) -> Call {
         what: format!("read into {} values and {} marks", values.len(), marks.len()),
         asked: std::mem::take(&mut asked(READ, message, lent).list_of_words(values).list(marks).0),
         expected: Octets::default().header(&h).words(&v).octets(&m).kept(),
-        reply: Some(h.reply),
+        reply: Some(h.told()),
     }
 }
 
@@ -185,7 +190,7 @@ pub fn display(message: &[u8], lent: &Lent) -> Call {
         what: "display".into(),
         asked: asked(DISPLAY, message, lent).0,
         expected: Octets::default()
-            .word(reply)
+            .reply(reply)
             .octets(&reference.to_le_bytes())
             .octets(&step.to_le_bytes())
             .kept(),
@@ -271,7 +276,7 @@ pub fn write(parts: &Parts, kinds: Kinds, out: &[u8]) -> Call {
         what: format!("write into {} octets", out.len()),
         asked: asked.0,
         expected: Octets::default().words(&[reply, len]).octets(&after).kept(),
-        reply: Some(reply),
+        reply: Some(Reply::of(reply)),
     }
 }
 
@@ -288,7 +293,7 @@ pub fn length(pds: &[u8], form: &Form, kinds: Kinds, lent: &Lent, marks: &[u8]) 
         what: format!("length for {} marks", marks.len()),
         asked: asked.0,
         expected: Octets::default().words(&[reply, len]).kept(),
-        reply: Some(reply),
+        reply: Some(Reply::of(reply)),
     }
 }
 
@@ -303,7 +308,7 @@ pub fn check(message: &[u8], lent: &Lent, source: &Source) -> Call {
     Call {
         what: "check".into(),
         asked: asked.0,
-        expected: Octets::default().word(reply).kept(),
+        expected: Octets::default().reply(reply).kept(),
         reply: Some(reply),
     }
 }
@@ -326,7 +331,7 @@ pub fn pack(pds: &[u8], form: &Form, kinds: Kinds, lent: &Lent, source: &Source,
         what: format!("pack into {} octets", out.len()),
         asked: asked.0,
         expected: Octets::default().words(&[reply, len]).octets(&after).kept(),
-        reply: Some(reply),
+        reply: Some(Reply::of(reply)),
     };
     after.truncate(len as usize);
     (call, after)

@@ -4,7 +4,7 @@
 use crate::call::{self, Call, Chart, Kinds};
 use second_reading::cases::Rng;
 use second_reading::grid::{from_catalogue, points};
-use second_reading::{points_in_row, write, BitmapKind, Form, Grid, Lent, Parts, Rows, Source};
+use second_reading::{points_in_row, write, BitmapKind, Form, Grid, Lent, Parts, Reply, Rows, Source};
 
 const CATALOGUE: [u8; 15] = [2, 3, 29, 30, 33, 34, 45, 37, 38, 39, 40, 41, 42, 43, 44];
 
@@ -162,13 +162,31 @@ pub fn calls(seed: u64, index: usize) -> Vec<Call> {
         }
     }
 
+    // each length one more, under its least, past the end by two and far, and octets left over
+    let places = [header.places.pds, header.places.gds, header.places.bms, header.places.bds];
+    let end = message.len() as u32 - 4;
+    for (part, least) in places.into_iter().zip([28, 32, 6, 12]) {
+        for length in [part.len + 1, least - 2, end - part.start + 2, 16_777_214] {
+            if part.len > 0 {
+                let mut other = message.clone();
+                other[part.start as usize..][..3].copy_from_slice(&length.to_be_bytes()[1..]);
+                calls.push(call::header(&other, &lent).1);
+            }
+        }
+    }
+    let mut longer = message.clone();
+    longer.splice(end as usize..end as usize, rng.octets(1 + index % 5));
+    let total = longer.len() as u32;
+    longer[4..7].copy_from_slice(&total.to_be_bytes()[1..]);
+    calls.push(call::header(&longer, &lent).1);
+
     // a source packed and checked
     let spread = 1 + rng.below(1 << (bits.min(21) + 2)) as i64;
     let low = rng.between(-8_388_607, 8_388_607 - spread);
     let numbers = marks.iter().map(|&mark| if mark == 1 { rng.between(low, low + spread) as i32 } else { rng.draw() as i32 }).collect();
     let source = Source { numbers, marks, d };
     let (packed, message) = call::pack(&pds, &form, kinds, &lent, &source, &out);
-    if packed.reply == Some(0) {
+    if packed.reply == Some(Reply::of(0)) {
         calls.push(call::check(&message, &lent, &source));
     }
     calls.push(packed);

@@ -5,7 +5,7 @@ use crate::cases::{CheckCase, PackCase, ReadCase, WriteCase};
 use crate::grid::{grid_outside_rules, place_of, points_in_row, to_gds};
 use crate::{
     bitmap_in_force, check, display, pack, read, section, write, BitmapKind, Form, Grid, Header,
-    Lent, Part, Parts, Rows, Source,
+    Lent, Part, Parts, Reply, Rows, Source,
 };
 
 /// The lines that every file begins with.
@@ -43,8 +43,20 @@ fn value(number: i32) -> String {
     format!("record {{ value = {} }}", integer(number as i64))
 }
 
-fn refusal(reply: u32) -> String {
-    format!("refusal {reply}")
+/// A reply with section and place where it has them.
+fn refusal(reply: Reply) -> String {
+    match reply {
+        Reply {
+            number,
+            section: 0,
+            place: 0,
+        } => format!("refusal {number}"),
+        Reply {
+            number,
+            section,
+            place,
+        } => format!("refusalAt {number} {section} {place}"),
+    }
 }
 
 fn part(part: Part) -> String {
@@ -123,7 +135,7 @@ fn header(header: &Header) -> String {
     format!(
         "record {{ refusal = {}; places = {places}; time = {time}; d = {}; grid = {}; \
          points = {}; bitmap = {}; present = {}; packing = {}; scale = {} }}",
-        refusal(header.reply),
+        refusal(header.told()),
         value(header.d),
         grid(&header.grid),
         header.points,
@@ -168,7 +180,7 @@ fn source(source: &Source) -> String {
 fn written(outcome: (u32, u32)) -> String {
     format!(
         "record {{ refusal = {}; len = {} }}",
-        refusal(outcome.0),
+        refusal(Reply::of(outcome.0)),
         outcome.1
     )
 }
@@ -329,7 +341,7 @@ pub fn check_statements(k: usize, case: &CheckCase) -> (String, u32) {
         ),
         &refusal(reply),
     );
-    (text, reply)
+    (text, reply.number)
 }
 
 /// The statements of a case for the packer, and its reply.

@@ -90,13 +90,15 @@ pub struct PackCase {
 }
 
 /// The replies that each function's cases aim at.
-pub const READ_REPLIES: [u32; 13] = [1, 2, 3, 4, 5, 6, 7, 8, 9, 10, 11, 12, 14];
+pub const READ_REPLIES: [u32; 16] = [1, 2, 3, 4, 20, 21, 22, 23, 6, 7, 8, 9, 10, 11, 12, 14];
 pub const WRITE_REPLIES: [u32; 8] = [5, 6, 7, 9, 10, 11, 13, 14];
-pub const CHECK_REPLIES: [u32; 16] = [1, 2, 3, 4, 5, 6, 7, 8, 9, 10, 11, 12, 15, 16, 17, 18];
+pub const CHECK_REPLIES: [u32; 19] = [
+    1, 2, 3, 4, 20, 21, 22, 23, 6, 7, 8, 9, 10, 11, 12, 15, 16, 17, 18,
+];
 /// What the checker's cases aim at: its own replies twice as often, and 6, whose
 /// damage is as often none.
-const CHECK_AIMS: [u32; 21] = [
-    1, 2, 3, 15, 16, 17, 18, 4, 5, 6, 7, 8, 9, 15, 16, 17, 18, 10, 11, 6, 12,
+const CHECK_AIMS: [u32; 24] = [
+    1, 2, 3, 15, 16, 17, 18, 4, 20, 21, 22, 23, 6, 7, 8, 9, 15, 16, 17, 18, 10, 11, 6, 12,
 ];
 pub const PACK_REPLIES: [u32; 11] = [5, 18, 15, 11, 19, 6, 7, 9, 10, 13, 14];
 
@@ -616,7 +618,7 @@ fn widen(rng: &mut Rng, draft: &mut Draft) {
             (255, 257),
         ];
         let (ni, nj): (u16, u16) = rng.pick(&sizes);
-        gds.truncate(32);
+        gds.resize(32, 0);
         put(gds, 1, &[0, 0, 32, 0, 255]);
         put(gds, 7, &ni.to_be_bytes());
         put(gds, 9, &nj.to_be_bytes());
@@ -695,6 +697,130 @@ fn uncatalogued(rng: &mut Rng) -> u8 {
     }
 }
 
+impl Draft {
+    /// Section 1 to 4 where it is there.
+    fn section(&mut self, number: usize) -> Option<&mut Vec<u8>> {
+        match number {
+            1 => Some(&mut self.pds),
+            2 => self.gds.as_mut(),
+            3 => self.bms.as_mut(),
+            _ => Some(&mut self.bds),
+        }
+    }
+
+    /// One of its sections that has a length; the bitmap's, which is not always
+    /// there, no less often than the others.
+    fn some_section(&mut self, rng: &mut Rng) -> usize {
+        loop {
+            let number = rng.pick(&[1, 2, 3, 3, 4]);
+            if self.section(number).is_some_and(|octets| octets.len() >= 3) {
+                return number;
+            }
+        }
+    }
+
+    /// How many octets stand from a section's start to the end section's.
+    fn room_from(&mut self, number: usize) -> usize {
+        let sections: usize = (number..=4)
+            .map(|k| self.section(k).map_or(0, |octets| octets.len()))
+            .sum();
+        sections + self.stray.len()
+    }
+
+    /// A section that says another length, or has it too, so that the walk would
+    /// land.
+    fn set_section(&mut self, number: usize, length: usize, stands: bool) {
+        let octets = self.section(number).expect("a section that is there");
+        if stands && length >= 3 {
+            octets.resize(length, 0);
+        }
+        put_length(octets, length);
+    }
+
+    /// The end section after so many octets of a section.
+    fn end_in(&mut self, number: usize, left: usize) {
+        self.section(number)
+            .expect("a section that is there")
+            .truncate(left);
+        for later in number + 1..=4 {
+            if let Some(octets) = self.section(later) {
+                octets.clear();
+            }
+        }
+        self.stray.clear();
+    }
+}
+
+/// The least length of each section.
+const LEAST: [usize; 5] = [0, 28, 32, 6, 12];
+
+/// Damages the length of some section so that 20, 21, 22 or 23 may come of it: in
+/// this way alone, or with more that is wrong in the same section.
+fn damage_length(rng: &mut Rng, draft: &mut Draft, reply: u32) {
+    if draft.pds.len() < 26 || draft.bds.len() < 10 || rng.chance(10) {
+        return damage_lengths(rng, draft);
+    }
+    let number = draft.some_section(rng);
+    let own = draft.section(number).map_or(0, |octets| octets.len());
+    let (least, room) = (LEAST[number], draft.room_from(number));
+    let stands = rng.chance(50);
+    match reply {
+        20 => {
+            let any = 2 * rng.below(room) + 1;
+            let length = rng.pick(&[
+                own + 1,
+                own - 1,
+                least - 1,
+                least + 1,
+                1,
+                room + 1,
+                any,
+                1_025,
+                16_777_215,
+            ]);
+            draft.set_section(number, length, stands && length < 2_000);
+        }
+        21 if number == 1 && rng.chance(40) => {
+            // Over 1,024, and past the end or not.
+            let length = rng.pick(&[1_026, 1_026, 1_028, 1_025, 65_564, 16_777_214]);
+            draft.set_section(1, length, length < 2_000 && rng.chance(30));
+        }
+        21 => {
+            let any = 2 * rng.below(least / 2);
+            let length = rng.pick(&[least - 2, least - 2, 0, 2, any, least - 1]);
+            draft.set_section(number, length, stands);
+            if rng.chance(15) {
+                // Under its least, and past the end.
+                draft.end_in(number, 3);
+            }
+        }
+        22 if stands => {
+            // Its length can't be read, or just be read.
+            let left = rng.pick(&[0, 0, 1, 2, 2, 3, own - 1]);
+            draft.end_in(number, left);
+        }
+        22 => {
+            let any = 2 * rng.below(600);
+            let length = room + rng.pick(&[2, 2, 4, 0, any + 2, 1]);
+            let far = if number == 1 { 1_024 } else { 16_777_214 };
+            draft.set_section(number, rng.pick(&[length, length, far]), false);
+        }
+        _ => match rng.below(4) {
+            0 if draft.bds.len() >= 14 => {
+                let length = draft.bds.len() - 2;
+                put_length(&mut draft.bds, length);
+            }
+            1 => draft.stray = b"7777".to_vec(),
+            _ => {
+                let any = 1 + rng.below(40);
+                let count = rng.pick(&[1, 1, 2, 2, 3, 4, 12, any]);
+                draft.stray = rng.octets(count);
+            }
+        },
+    }
+}
+
+/// Damages lengths in one of many ways, whatever comes of it.
 fn damage_lengths(rng: &mut Rng, draft: &mut Draft) {
     if draft.pds.len() < 26 || draft.bds.len() < 10 {
         // Damaged in this way already.
@@ -826,7 +952,10 @@ fn damage_grid_octets(rng: &mut Rng, gds: &mut [u8]) {
 
 fn damage_bitmap(rng: &mut Rng, draft: &mut Draft) {
     let needed = draft.n.div_ceil(8);
-    let Some(bms) = &mut draft.bms else { return };
+    // A section that is too short is damaged already.
+    let Some(bms) = draft.bms.as_mut().filter(|bms| bms.len() >= 6) else {
+        return;
+    };
     let number = 256 * bms[4] as u16 + bms[5] as u16;
     if number == 0 {
         match rng.below(9) {
@@ -917,7 +1046,8 @@ fn damage_data(rng: &mut Rng, draft: &mut Draft) {
     }
 }
 
-/// Damages a draft so that a reply number from 1 to 12 may come of it.
+/// Damages a draft so that a reply number from 1 to 12, or from 20 to 23, may come
+/// of it.
 fn damage(rng: &mut Rng, draft: &mut Draft, reply: u32, large: bool) {
     match reply {
         1 => draft.cut = Some(rng.pick(&[0, 1, 2, 3, 4, 5, 6, 7, 7, 8])),
@@ -944,7 +1074,7 @@ fn damage(rng: &mut Rng, draft: &mut Draft, reply: u32, large: bool) {
                 _ => draft.end[rng.below(4)] ^= 1 << rng.below(8),
             }
         }
-        5 => damage_lengths(rng, draft),
+        20..=23 => damage_length(rng, draft, reply),
         6 if draft.pds.len() >= 26 => damage_time(rng, &mut draft.pds),
         7 if draft.pds.len() >= 8 => {
             draft.gds = None;
@@ -952,7 +1082,7 @@ fn damage(rng: &mut Rng, draft: &mut Draft, reply: u32, large: bool) {
             draft.pds[6] = uncatalogued(rng);
         }
         8 => {
-            if let Some(gds) = &mut draft.gds {
+            if let Some(gds) = draft.gds.as_mut().filter(|gds| gds.len() >= 6) {
                 if rng.chance(30) {
                     // Another length; the one of the other pair among them.
                     let longer = gds.len() + rng.pick(&[2, 4, 6]);
@@ -1676,7 +1806,7 @@ pub fn pack_case(seed: u64, index: usize, size: Size) -> PackCase {
 
 /// How often each reply was given.
 #[derive(Default)]
-pub struct Histogram(pub [usize; 20]);
+pub struct Histogram(pub [usize; 24]);
 
 impl Histogram {
     pub fn count(&mut self, reply: u32) {

@@ -1,8 +1,8 @@
-//! The checker: 1 to 12, then 18, 15, 16, 17.
+//! The checker: 1 to 12, 20 to 23 among them, then 18, 15, 16, 17.
 
 use crate::bits::{bits_of_number, number_of};
 use crate::read::{header, unpacked};
-use crate::Lent;
+use crate::{Lent, Reply};
 
 /// "source number: least -8,388,607, most 8,388,607"
 pub const BOUND: i64 = 8_388_607;
@@ -50,31 +50,31 @@ pub fn whole_reference(r: u32) -> Option<i64> {
 }
 
 /// Judges a message against its source.
-pub fn check(message: &[u8], lent: &Lent, numbers: &[i32], marks: &[u8], d: i32) -> u32 {
+pub fn check(message: &[u8], lent: &Lent, numbers: &[i32], marks: &[u8], d: i32) -> Reply {
     // "Checker: 1 to 12, then 18, 15, 16, 17."
     let header = header(message, lent);
     if header.reply != 0 {
-        return header.reply;
+        return header.told();
     }
     if row_18(numbers, marks) {
-        return 18;
+        return Reply::of(18);
     }
     // 15: "point count, marks or D of message and source differ"
     let values = unpacked(message, lent);
     if values.len() != numbers.len() {
-        return 15;
+        return Reply::of(15);
     }
     let message_marks: Vec<u8> = values.iter().map(|x| u8::from(x.is_some())).collect();
     if message_marks != marks || header.d != d {
-        return 15;
+        return Reply::of(15);
     }
     // 16: "checker: E outside 0 to 24, or R not whole or over 8,388,607 in
     // magnitude"
     if header.e < 0 || header.e > 24 {
-        return 16;
+        return Reply::of(16);
     }
     let reference = match whole_reference(header.r) {
-        None => return 16,
+        None => return Reply::of(16),
         Some(reference) => reference,
     };
     // 17: "a present point is out by more than half a step": "2 x |V - R - X x
@@ -84,11 +84,11 @@ pub fn check(message: &[u8], lent: &Lent, numbers: &[i32], marks: &[u8], d: i32)
         if let Some(x) = value {
             let out_by = (numbers[point] as i64 - reference - *x as i64 * step).abs();
             if 2 * out_by > step {
-                return 17;
+                return Reply::of(17);
             }
         }
     }
-    0
+    Reply::of(0)
 }
 
 #[cfg(test)]

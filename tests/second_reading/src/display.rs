@@ -3,7 +3,7 @@
 
 use crate::bits::{bits_of_number, number_of};
 use crate::read::header;
-use crate::Lent;
+use crate::{Lent, Reply};
 
 /// A double written out: sign, eleven bits of exponent (its value plus 1,023),
 /// fifty-two bits of fraction after the leading one.
@@ -40,16 +40,21 @@ pub fn step_bits(e: i64) -> u64 {
 }
 
 /// The reply, the bits of R and the bits of 2^E: "E outside -1,022 to 1,023 is
-/// refusal 16, after 1 to 12." On a refusal both doubles have all bits zero.
-pub fn display(message: &[u8], lent: &Lent) -> (u32, u64, u64) {
+/// refusal 16, after 1 to 12", 20 to 23 among them. On a refusal both doubles have
+/// all bits zero.
+pub fn display(message: &[u8], lent: &Lent) -> (Reply, u64, u64) {
     let header = header(message, lent);
     if header.reply != 0 {
-        return (header.reply, 0, 0);
+        return (header.told(), 0, 0);
     }
     if header.e < -1_022 || header.e > 1_023 {
-        return (16, 0, 0);
+        return (Reply::of(16), 0, 0);
     }
-    (0, reference_bits(header.r), step_bits(header.e as i64))
+    (
+        Reply::of(0),
+        reference_bits(header.r),
+        step_bits(header.e as i64),
+    )
 }
 
 #[cfg(test)]

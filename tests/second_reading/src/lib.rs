@@ -2,9 +2,9 @@
 //!
 //! This package computes, slowly and literally, what document 01 ("Definition
 //! of the build and its rules") says a GRIB Edition 1 codec must answer, and
-//! what the requests of document 02 that have landed add to it (R-1). It was
-//! written from these documents alone, with the list of open points deciding
-//! where they leave room for two readings. It shares nothing with the codec it
+//! what the requests of document 02 that have landed add to it or change in it
+//! (R-1 and R-2). It was written from these documents alone, with the list of
+//! open points deciding where they leave room for two readings. It shares nothing with the codec it
 //! is used to test: no code, no constants, no tricks. Wherever a person with
 //! paper and pencil would write out bits, the code here writes out bits.
 //!
@@ -13,7 +13,8 @@
 //! * `bits`    octets, bits and signed numbers;
 //! * `grid`    the catalogue, the grid rules, rows and columns;
 //! * `time`    the time rules;
-//! * `read`    replies 1 to 12 and 14, the header, the parts of a message;
+//! * `read`    replies 1 to 4, 20 to 23, 6 to 12 and 14, the header, the parts of a
+//!   message;
 //! * `display` R and 2^E as IEEE doubles;
 //! * `write`   the writer;
 //! * `again`   writing what was read;
@@ -134,10 +135,37 @@ pub struct Lent {
     pub octets: Vec<u8>,
 }
 
+/// A reply of the reader, of the display or of the checker. Of 20 to 23 it also
+/// says where a length went wrong; of every other number, acceptance included,
+/// section and place are 0.
+#[derive(Clone, Copy, PartialEq, Eq, Debug, Default)]
+pub struct Reply {
+    pub number: u32,
+    /// The section's number, 1 to 4; of 23 it is 5.
+    pub section: u32,
+    /// The place in the message, counted from 1, of that section's first octet; of
+    /// 23 that of the first octet left over.
+    pub place: u32,
+}
+
+impl Reply {
+    /// A reply that has no section and no place.
+    pub fn of(number: u32) -> Reply {
+        Reply {
+            number,
+            section: 0,
+            place: 0,
+        }
+    }
+}
+
 /// All that reading a message tells, besides the values and the marks.
 #[derive(Clone, Copy, PartialEq, Eq, Debug, Default)]
 pub struct Header {
+    /// Reply, section and place, as a `Reply` has them.
     pub reply: u32,
+    pub section: u32,
+    pub place: u32,
     pub places: Places,
     pub time: Time,
     pub d: i32,
@@ -151,6 +179,17 @@ pub struct Header {
     pub bits: u8,
     pub e: i32,
     pub r: u32,
+}
+
+impl Header {
+    /// Its reply, with section and place.
+    pub fn told(&self) -> Reply {
+        Reply {
+            number: self.reply,
+            section: self.section,
+            place: self.place,
+        }
+    }
 }
 
 /// What a grid point's data number is.

@@ -16,7 +16,8 @@ pub fn listing(input: &[u8]) -> String {
     let mut values = vec![0; 4_096];
     let mut marks = vec![0; 4_096];
     let header = read(input, 0, &[], &mut values, &mut marks);
-    // "A refusal prints `refused` and its number."
+    // "A refusal prints `refused` and its number": the number alone, of 20 to 23
+    // too.
     if header.reply != 0 {
         return format!("refused {}\n", header.reply);
     }

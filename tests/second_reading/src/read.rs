@@ -1,9 +1,12 @@
-//! The reader: replies 1 to 12 and 14, and what it hands back.
+//! The reader: replies 1 to 4, 20 to 23, 6 to 12 and 14, and what it hands back.
+//! Where the table of document 01 has 5, R-2 has 20 to 23: "reading, 5 becomes 20
+//! to 23 in that order, section by section from the front, where 5 stood". And
+//! '"1 to 12" includes them'.
 
 use crate::bits::{bit, bits_of, number_in, number_of, octet, signed_in};
 use crate::grid::{from_catalogue, from_gds, grid_outside_rules, points};
 use crate::time::{time_of, time_out_of_range};
-use crate::{BitmapKind, DataNumber, Grid, Header, Lent, Part, Places};
+use crate::{BitmapKind, DataNumber, Grid, Header, Lent, Part, Places, Reply};
 
 /// 1: "slice below 8 or above 262,144 octets"
 fn row_1(message: &[u8]) -> bool {
@@ -26,69 +29,110 @@ fn row_4(message: &[u8]) -> bool {
     number_in(message, 5, 7) != message.len() as u64 || message[message.len() - 4..] != *b"7777"
 }
 
-/// One step of the walk: the section at `place` if its length can be read, is
-/// even, is not under its least or over its most, and the section does not pass
-/// the end section's start.
-fn step(message: &[u8], place: usize, least: usize, most: usize) -> Option<Part> {
+/// A section of the walk: its number, and the least and the most that its length
+/// may be. "a section length is ... under its least (PDS 28, GDS 32, BMS 6, BDS
+/// 12), PDS over 1,024"
+struct Bounds {
+    section: u32,
+    least: usize,
+    most: Option<usize>,
+}
+
+const PDS: Bounds = Bounds {
+    section: 1,
+    least: 28,
+    most: Some(1_024),
+};
+
+const GDS: Bounds = Bounds {
+    section: 2,
+    least: 32,
+    most: None,
+};
+
+const BMS: Bounds = Bounds {
+    section: 3,
+    least: 6,
+    most: None,
+};
+
+const BDS: Bounds = Bounds {
+    section: 4,
+    least: 12,
+    most: None,
+};
+
+/// A refusal by 20 to 23: "each with the section's number and its first octet's
+/// place in the message". Octets are counted from 1, so the one with `before`
+/// octets before it has the place after that number.
+fn stopped(number: u32, section: u32, before: usize) -> Reply {
+    Reply {
+        number,
+        section,
+        place: before as u32 + 1,
+    }
+}
+
+/// One step of the walk: the section that has `before` octets before it, or what
+/// its length breaks, in number order.
+fn step(message: &[u8], before: usize, bounds: &Bounds) -> Result<Part, Reply> {
     let end_start = message.len() - 4;
-    // "a length's octets ... passes the end section's start"
-    if place + 3 > end_start {
-        return None;
+    let stop = |number| Err(stopped(number, bounds.section, before));
+    // "a length whose own octets don't fit is 22": there is no length to judge.
+    if before + 3 > end_start {
+        return stop(22);
     }
-    let length = number_in(&message[place..], 1, 3) as usize;
-    // "a section length is odd or under its least (PDS 28, GDS 32, BMS 6, BDS
-    // 12), PDS over 1,024"
-    if length % 2 == 1 || length < least || length > most {
-        return None;
+    let length = number_in(&message[before..], 1, 3) as usize;
+    // "odd length"
+    if length % 2 == 1 {
+        return stop(20);
     }
-    // "or its section passes the end section's start"
-    if place + length > end_start {
-        return None;
+    // "under or over its bounds"
+    if length < bounds.least || bounds.most.is_some_and(|most| length > most) {
+        return stop(21);
     }
-    Some(Part {
-        start: place as u32,
+    // "running past the end section"
+    if before + length > end_start {
+        return stop(22);
+    }
+    Ok(Part {
+        start: before as u32,
         len: length as u32,
     })
 }
 
-/// The walk over the sections that PDS octet 8 announces; nothing if row 5 of
-/// the table applies.
-fn walk(message: &[u8]) -> Option<Places> {
-    let any = usize::MAX;
-    let pds = step(message, 8, 28, 1_024)?;
+/// The walk over the sections that PDS octet 8 announces, "section by section from
+/// the front"; or where it stopped.
+fn walk(message: &[u8]) -> Result<Places, Reply> {
+    let pds = step(message, 8, &PDS)?;
     let flags = octet(part_of(message, pds), 8);
-    let mut place = 8 + pds.len as usize;
+    let mut before = 8 + pds.len as usize;
 
     // "octet 8 bit 1 = grid section present, bit 2 = bitmap section present"
     let mut gds = Part {
-        start: place as u32,
+        start: before as u32,
         len: 0,
     };
     if bit(flags, 1) {
-        gds = step(message, place, 32, any)?;
-        place += gds.len as usize;
+        gds = step(message, before, &GDS)?;
+        before += gds.len as usize;
     }
     let mut bms = Part {
-        start: place as u32,
+        start: before as u32,
         len: 0,
     };
     if bit(flags, 2) {
-        bms = step(message, place, 6, any)?;
-        place += bms.len as usize;
+        bms = step(message, before, &BMS)?;
+        before += bms.len as usize;
     }
-    let bds = step(message, place, 12, any)?;
-    place += bds.len as usize;
+    let bds = step(message, before, &BDS)?;
+    before += bds.len as usize;
 
-    // "or the sections don't reach it exactly"
-    if place != message.len() - 4 {
-        return None;
+    // "octets left over"; "23 names section 5 and the first octet left over"
+    if before != message.len() - 4 {
+        return Err(stopped(23, 5, before));
     }
-    Some(Places { pds, gds, bms, bds })
-}
-
-/// 5: the row about section lengths.
-fn row_5(message: &[u8]) -> bool {
-    walk(message).is_none()
+    Ok(Places { pds, gds, bms, bds })
 }
 
 /// The octets of a part.
@@ -96,10 +140,11 @@ pub fn part_of(octets: &[u8], part: Part) -> &[u8] {
     &octets[part.start as usize..(part.start + part.len) as usize]
 }
 
-// From here on, rows 1 to 5 do not apply and the sections can be named.
+// From here on, rows 1 to 4 and 20 to 23 do not apply and the sections can be
+// named.
 
 fn places(message: &[u8]) -> Places {
-    walk(message).expect("row 5 does not apply")
+    walk(message).expect("20 to 23 do not apply")
 }
 
 fn pds(message: &[u8]) -> &[u8] {
@@ -236,55 +281,61 @@ fn row_12(message: &[u8], lent: &Lent) -> bool {
     8 * (length - 11) - unused != m * width
 }
 
-/// The first of 1 to 12 that applies, in number order, or 0.
-pub fn refusal(message: &[u8], lent: &Lent) -> u32 {
+/// The first that applies of 1 to 4, 20 to 23 and 6 to 12, in this order, or 0.
+pub fn refusal(message: &[u8], lent: &Lent) -> Reply {
     if row_1(message) {
-        1
+        Reply::of(1)
     } else if row_2(message) {
-        2
+        Reply::of(2)
     } else if row_3(message) {
-        3
+        Reply::of(3)
     } else if row_4(message) {
-        4
-    } else if row_5(message) {
-        5
+        Reply::of(4)
+    } else if let Err(stopped) = walk(message) {
+        stopped
     } else if row_6(message) {
-        6
+        Reply::of(6)
     } else if row_7(message) {
-        7
+        Reply::of(7)
     } else if row_8(message) {
-        8
+        Reply::of(8)
     } else if row_9(message) {
-        9
+        Reply::of(9)
     } else if row_10(message, lent) {
-        10
+        Reply::of(10)
     } else if row_11(message) {
-        11
+        Reply::of(11)
     } else if row_12(message, lent) {
-        12
+        Reply::of(12)
     } else {
-        0
+        Reply::of(0)
     }
 }
 
-/// "Every other reply returns its number with all counts and fields zero".
-fn refused(reply: u32) -> Header {
+/// "Every other reply returns its number with all counts and fields zero"; of 20
+/// to 23, "They alone return two fields that may not be zero."
+fn refused(reply: Reply) -> Header {
     Header {
-        reply,
+        reply: reply.number,
+        section: reply.section,
+        place: reply.place,
         ..Header::default()
     }
 }
 
-/// The header of a message, with no lists lent: replies 0 and 1 to 12.
+/// The header of a message, with no lists lent: replies 0, and 1 to 12 with
+/// 20 to 23 among them.
 pub fn header(message: &[u8], lent: &Lent) -> Header {
     let reply = refusal(message, lent);
-    if reply != 0 {
+    if reply.number != 0 {
         return refused(reply);
     }
     let pds = pds(message);
     let bds = bds(message);
     Header {
         reply: 0,
+        section: 0,
+        place: 0,
         places: places(message),
         time: time_of(pds),
         // "decimal scale D 27-28"
@@ -340,7 +391,7 @@ pub fn read(
     // 14: "lent output too short"
     let n = header.points as usize;
     if values.len() < n || marks.len() < n {
-        return refused(14);
+        return refused(Reply::of(14));
     }
     // "Reading writes n values and n marks, 0 and 0 at absent points; elements
     // after n stay."
@@ -364,7 +415,7 @@ pub fn read(
 /// empty part at its start."
 pub fn section(message: &[u8], lent: &Lent, k: u32) -> Part {
     let empty = Part { start: 0, len: 0 };
-    if refusal(message, lent) != 0 {
+    if refusal(message, lent).number != 0 {
         return empty;
     }
     let places = places(message);
@@ -423,7 +474,7 @@ pub fn bitmap_in_force(message: &[u8], lent: &Lent) -> (bool, Part) {
 /// bitmap, or its own number where there is no bitmap. An absent point has none."
 /// A refused message has no points.
 pub fn data_number(message: &[u8], lent: &Lent, point: u32) -> DataNumber {
-    if refusal(message, lent) != 0 {
+    if refusal(message, lent).number != 0 {
         return DataNumber::Outside;
     }
     let marks = presence(message, lent);

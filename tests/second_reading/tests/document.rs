@@ -1,5 +1,5 @@
 //! Every example that document 01 gives, and the cases at each edge; and what R-1
-//! of document 02 says of thinned octants.
+//! of document 02 says of thinned octants, and R-2 of where the lengths went wrong.
 
 use second_reading::*;
 
@@ -46,6 +46,8 @@ fn specimen_grid() -> Grid {
 fn specimen_header() -> Header {
     Header {
         reply: 0,
+        section: 0,
+        place: 0,
         places: Places {
             pds: Part { start: 8, len: 28 },
             gds: Part { start: 36, len: 32 },
@@ -205,7 +207,7 @@ fn data_numbers_of_the_specimen() {
 #[test]
 fn the_specimen_is_displayed() {
     let (reply, reference, step) = display(&specimen(), &none());
-    assert_eq!(reply, 0);
+    assert_eq!(reply, Reply::of(0));
     assert_eq!(f64::from_bits(reference), 2_500.0);
     assert_eq!(f64::from_bits(step), 1.0);
     for (octets, reply, step) in [
@@ -218,11 +220,11 @@ fn the_specimen_is_displayed() {
         let mut message = specimen();
         message[80..82].copy_from_slice(&octets);
         let shown = display(&message, &none());
-        assert_eq!(shown.0, reply);
+        assert_eq!(shown.0, Reply::of(reply));
         assert_eq!(shown.1, if reply == 0 { 2_500f64.to_bits() } else { 0 });
         assert_eq!(shown.2, step.to_bits());
     }
-    assert_eq!(display(&[], &none()), (1, 0, 0));
+    assert_eq!(display(&[], &none()), (Reply::of(1), 0, 0));
 }
 
 #[test]
@@ -263,25 +265,25 @@ fn the_specimen_is_packed_and_checked() {
             source.d,
         )
     };
-    assert_eq!(judge(&source), 0);
+    assert_eq!(judge(&source), Reply::of(0));
     let mut other = source.clone();
     other.d = 2;
-    assert_eq!(judge(&other), 15);
+    assert_eq!(judge(&other), Reply::of(15));
     other = source.clone();
     other.numbers[1] += 1;
-    assert_eq!(judge(&other), 17);
+    assert_eq!(judge(&other), Reply::of(17));
     other = source.clone();
     other.marks[2] = 1;
-    assert_eq!(judge(&other), 15);
+    assert_eq!(judge(&other), Reply::of(15));
     other = source.clone();
     other.marks[2] = 2;
-    assert_eq!(judge(&other), 18);
+    assert_eq!(judge(&other), Reply::of(18));
     other = source.clone();
     other.numbers[0] = 8_388_608;
-    assert_eq!(judge(&other), 18);
+    assert_eq!(judge(&other), Reply::of(18));
     other = source.clone();
     other.numbers[2] = i32::MIN;
-    assert_eq!(judge(&other), 0);
+    assert_eq!(judge(&other), Reply::of(0));
 }
 
 #[test]
@@ -291,8 +293,9 @@ fn the_slice_and_the_end() {
     assert_eq!(header(b"GRIB\0\0\x08\x01", &none()).reply, 4);
     assert_eq!(header(&vec![0; 262_145], &none()).reply, 1);
     assert_eq!(header(&vec![0; 262_144], &none()).reply, 2);
-    // Twelve octets are an indicator and an end with nothing between: 5.
-    assert_eq!(header(b"GRIB\0\0\x0C\x017777", &none()).reply, 5);
+    // Twelve octets are an indicator and an end with nothing between: no PDS at 9.
+    let told = header(b"GRIB\0\0\x0C\x017777", &none()).told();
+    assert_eq!(told, stop(22, 1, 9));
     let mut message = specimen();
     message[7] = 2;
     assert_eq!(header(&message, &none()).reply, 3);
@@ -300,16 +303,116 @@ fn the_slice_and_the_end() {
     assert_eq!(header(&message, &none()).reply, 2);
 }
 
+fn stop(number: u32, section: u32, place: u32) -> Reply {
+    Reply {
+        number,
+        section,
+        place,
+    }
+}
+
 #[test]
 fn the_order_of_5_and_8() {
+    // Where 5 stood, reading gives 20 to 23.
     let mut message = specimen();
     message.splice(68..68, [0, 0]);
     message[6] = 96;
-    assert_eq!(header(&message, &none()).reply, 5);
+    // A BMS of 0 octets stands after the GDS.
+    assert_eq!(header(&message, &none()).told(), stop(21, 3, 69));
     message[38] = 34;
-    assert_eq!(header(&message, &none()).reply, 8);
+    assert_eq!(header(&message, &none()).told(), Reply::of(8));
     message[38] = 33;
-    assert_eq!(header(&message, &none()).reply, 5);
+    assert_eq!(header(&message, &none()).told(), stop(20, 2, 37));
+}
+
+/// "odd length, under or over its bounds, running past the end section, and octets
+/// left over, each with the section's number and its first octet's place in the
+/// message": the PDS at 9, the GDS at 37, the BMS at 69, the BDS at 77, the end
+/// section at 91.
+#[test]
+fn where_the_lengths_went_wrong() {
+    for (place, length, told) in [
+        (9, 29, stop(20, 1, 9)),
+        (9, 27, stop(20, 1, 9)),
+        (9, 26, stop(21, 1, 9)),
+        (9, 84, stop(22, 1, 9)),
+        (9, 1_024, stop(22, 1, 9)),
+        (9, 1_025, stop(20, 1, 9)),
+        (9, 1_026, stop(21, 1, 9)),
+        (9, 1_027, stop(20, 1, 9)),
+        (37, 33, stop(20, 2, 37)),
+        (37, 31, stop(20, 2, 37)),
+        (37, 30, stop(21, 2, 37)),
+        (37, 56, stop(22, 2, 37)),
+        (37, 55, stop(20, 2, 37)),
+        (69, 9, stop(20, 3, 69)),
+        (69, 5, stop(20, 3, 69)),
+        (69, 4, stop(21, 3, 69)),
+        (69, 24, stop(22, 3, 69)),
+        (77, 13, stop(20, 4, 77)),
+        (77, 11, stop(20, 4, 77)),
+        (77, 10, stop(21, 4, 77)),
+        (77, 16, stop(22, 4, 77)),
+        // what the next section would start with is the end section, or what is
+        // left over
+        (9, 82, stop(22, 2, 91)),
+        (37, 54, stop(22, 3, 91)),
+        (69, 22, stop(22, 4, 91)),
+        (77, 12, stop(23, 5, 89)),
+        (77, 14, Reply::of(0)),
+    ] {
+        let mut message = specimen();
+        message[place - 1..place + 2].copy_from_slice(&(length as u32).to_be_bytes()[1..]);
+        let (mut values, mut marks) = ([9; 4], [9; 4]);
+        let header = read(&message, 0, &[], &mut values, &mut marks);
+        assert_eq!(header.told(), told, "{length} at {place}");
+        assert_eq!(display(&message, &none()).0, told);
+        let Source { numbers, marks, d } = &specimen_source();
+        assert_eq!(check(&message, &none(), numbers, marks, *d), told);
+        // Before 18, and the listing has the number alone.
+        let unequal = check(&message, &none(), numbers, &marks[1..], *d);
+        if told.number == 0 {
+            assert_eq!(unequal, Reply::of(18));
+            continue;
+        }
+        assert_eq!(unequal, told);
+        assert_eq!(listing(&message), format!("refused {}\n", told.number));
+        // "They alone return two fields that may not be zero."
+        let zero = Header {
+            reply: told.number,
+            section: told.section,
+            place: told.place,
+            ..Header::default()
+        };
+        assert_eq!(header, zero);
+        assert_eq!(values, [9; 4]);
+        for k in 0..7 {
+            assert_eq!(section(&message, &none(), k), Part::default());
+        }
+        assert_eq!(bitmap_in_force(&message, &none()), (false, Part::default()));
+        assert_eq!(data_number(&message, &none(), 0), DataNumber::Outside);
+    }
+}
+
+/// "The writer keeps 5".
+#[test]
+fn the_writer_and_the_packer_keep_5() {
+    for length in [26, 27, 29, 1_025, 1_026] {
+        let mut parts = specimen_parts();
+        parts.pds.resize(length, 0);
+        parts.pds[1..3].copy_from_slice(&(length as u16).to_be_bytes());
+        let mut out = vec![0xAA; 2_000];
+        assert_eq!(write(&parts, &mut out), (5, 0), "{length}");
+        let packed = pack(
+            &parts.pds,
+            &specimen_form(),
+            &none(),
+            &specimen_source(),
+            &mut out,
+        );
+        assert_eq!(packed, (5, 0), "{length}");
+        assert_eq!(out, vec![0xAA; 2_000]);
+    }
 }
 
 #[test]
@@ -354,7 +457,8 @@ fn spread_at_the_edge() {
     let read_back = header(&out[..92], &none());
     assert_eq!((read_back.e, read_back.r), (24, 0xC1100000));
     let Source { numbers, marks, d } = &source;
-    assert_eq!(check(&out[..92], &none(), numbers, marks, *d), 0);
+    let checked = check(&out[..92], &none(), numbers, marks, *d);
+    assert_eq!(checked, Reply::of(0));
     source.numbers[1] += 1;
     assert_eq!(pack(pds, &form, &none(), &source, &mut out), (19, 0));
 }

@@ -33,11 +33,28 @@ fn reading() {
             let header = read(&case.message, *number, octets, &mut values, &mut marks);
             if header.reply != 0 {
                 assert_eq!((values, marks), (case.values, case.marks));
-                let zero = Header {
+                let mut zero = Header {
                     reply: header.reply,
                     ..Header::default()
                 };
+                // "They alone return two fields that may not be zero."
+                if (20..=23).contains(&header.reply) {
+                    assert!((1..=5).contains(&header.section) && header.place >= 9);
+                    (zero.section, zero.place) = (header.section, header.place);
+                }
                 assert_eq!(header, zero);
+                // A refused message has no parts, no bitmap and no points.
+                if header.reply != 14 {
+                    for k in 0..7 {
+                        assert_eq!(section(&case.message, &case.lent, k), Part::default());
+                    }
+                    let force = bitmap_in_force(&case.message, &case.lent);
+                    assert_eq!(force, (false, Part::default()));
+                    let number = data_number(&case.message, &case.lent, 0);
+                    assert_eq!(number, DataNumber::Outside);
+                    let shown = display(&case.message, &case.lent);
+                    assert_eq!(shown, (header.told(), 0, 0));
+                }
                 continue;
             }
             let n = header.points as usize;
@@ -103,7 +120,8 @@ fn packing() {
             }
             assert_eq!(out[length..], case.out[length..]);
             let Source { numbers, marks, d } = &case.source;
-            assert_eq!(check(&out[..length], &case.lent, numbers, marks, *d), 0);
+            let checked = check(&out[..length], &case.lent, numbers, marks, *d);
+            assert_eq!(checked, Reply::of(0));
         }
     }
 }
@@ -115,10 +133,14 @@ fn checking_agrees_with_reading() {
             let case = check_case(seed, k, size);
             let Source { numbers, marks, d } = &case.source;
             let reply = check(&case.message, &case.lent, numbers, marks, *d);
-            let read_reply = header(&case.message, &case.lent).reply;
-            assert_eq!(reply != 0 && reply <= 12, read_reply != 0);
-            if read_reply != 0 {
+            let read_reply = header(&case.message, &case.lent).told();
+            // "1 to 12" includes 20 to 23.
+            let of_the_message = matches!(reply.number, 1..=12 | 20..=23);
+            assert_eq!(of_the_message, read_reply.number != 0);
+            if of_the_message {
                 assert_eq!(reply, read_reply);
+            } else {
+                assert_eq!(reply, Reply::of(reply.number));
             }
         }
     }
@@ -155,5 +177,106 @@ fn every_reply_occurs() {
             enough(&replies[2], &CHECK_REPLIES, 3);
             enough(&replies[3], &PACK_REPLIES, 3);
         }
+    }
+}
+
+/// 5 of document 01, for a message that 1 to 4 do not refuse: "a section length is
+/// odd or under its least (PDS 28, GDS 32, BMS 6, BDS 12), PDS over 1,024, a
+/// length's octets or its section passes the end section's start, or the sections
+/// don't reach it exactly".
+fn was_5(message: &[u8]) -> bool {
+    let end = message.len() - 4;
+    let mut reached = 8;
+    let mut announced = [true, false, false, true];
+    for (section, least) in [28, 32, 6, 12].into_iter().enumerate() {
+        if !announced[section] {
+            continue;
+        }
+        if reached + 3 > end {
+            return true;
+        }
+        let octets = &message[reached..];
+        let length = octets[..3].iter().fold(0, |sum, &x| 256 * sum + x as usize);
+        let over = section == 0 && length > 1_024;
+        if length % 2 == 1 || length < least || over || reached + length > end {
+            return true;
+        }
+        if section == 0 {
+            announced[1] = octets[7] >= 128;
+            announced[2] = octets[7] % 128 >= 64;
+        }
+        reached += length;
+    }
+    reached != end
+}
+
+/// R-2 splits 5 and moves nothing else: a message that 1 to 4 do not refuse gets one
+/// of 20 to 23 exactly when document 01 gave it 5.
+#[test]
+fn refused_by_20_to_23_where_it_was_5() {
+    let mut split = 0;
+    let mut judge = |message: &[u8], lent: &Lent| {
+        let reply = header(message, lent).reply;
+        assert_ne!(reply, 5);
+        if !(1..=4).contains(&reply) {
+            assert_eq!((20..=23).contains(&reply), was_5(message));
+            split += usize::from(reply >= 20);
+        }
+    };
+    for (seed, size) in SEEDS {
+        for k in 0..COUNT {
+            let case = read_case(seed, k, size);
+            judge(&case.message, &case.lent);
+            let case = check_case(seed, k, size);
+            judge(&case.message, &case.lent);
+        }
+    }
+    for vector in vectors::read::table().vectors {
+        judge(&vector.message, &vector.lent);
+    }
+    assert!(split > 2_000, "{split}");
+}
+
+/// Where a length goes wrong in the cases: a reply and the section that it names.
+const STOPS: [(u32, u32); 13] = [
+    (20, 1),
+    (20, 2),
+    (20, 3),
+    (20, 4),
+    (21, 1),
+    (21, 2),
+    (21, 3),
+    (21, 4),
+    (22, 1),
+    (22, 2),
+    (22, 3),
+    (22, 4),
+    (23, 5),
+];
+
+#[test]
+fn every_section_is_named() {
+    for size in [Size::Small, Size::Short, Size::Whole] {
+        let mut named = std::collections::HashMap::new();
+        // 22 by a length whose own octets don't fit, in each section
+        let mut cut = [0; 5];
+        for seed in 1..=4 {
+            for k in 0..300 {
+                let read = read_case(seed, k, size);
+                let check = check_case(seed, k, size);
+                for (message, lent) in [(read.message, read.lent), (check.message, check.lent)] {
+                    let told = header(&message, &lent).told();
+                    *named.entry((told.number, told.section)).or_insert(0) += 1;
+                    if told.number == 22 && told.place as usize + 3 > message.len() - 3 {
+                        cut[told.section as usize] += 1;
+                    }
+                }
+            }
+        }
+        for stop in STOPS {
+            let times = named.get(&stop).copied().unwrap_or(0);
+            assert!(times >= 8, "{stop:?} {times} times");
+        }
+        assert!(cut[1..].iter().all(|&times| times >= 2), "{cut:?}");
     }
 }

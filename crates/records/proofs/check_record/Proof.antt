@@ -1,4 +1,4 @@
--- The reply's number.
+-- Field by field.
 use borrow.Author.Needs.{needs}
 use Rattle.records.proofs.check_record.Statement.{statement}
 use Rattle.records.proofs.check_record.Tie as tie

@@ -122,6 +122,15 @@ fn with(octet: usize, value: u8) -> Vec<u8> {
     octets
 }
 
+/// A message with so many octets before its end section.
+fn left_over(mut octets: Vec<u8>, count: usize) -> Vec<u8> {
+    let end = octets.len() - 4;
+    octets.splice(end..end, vec![0; count]);
+    let total = octets.len() as u32;
+    octets[4..7].copy_from_slice(&total.to_be_bytes()[1..]);
+    octets
+}
+
 /// A message with no GDS, of grid 29 of the catalogue.
 fn catalogued() -> Vec<u8> {
     let mut listed = parts(0, grid(145, 37, 64), 0, 0, 0, &[Some(0); 5_365]);
@@ -167,8 +176,28 @@ fn cases() -> Vec<(String, Vec<u8>)> {
     case("refused_3", with(8, 2));
     case("refused_4_total", with(7, 1));
     case("refused_4_end", with(small().len(), b'8'));
-    case("refused_5_odd", with(pds + 2, 29));
-    case("refused_5_past_end", with(gds + 1, 1));
+    // where the lengths went wrong: the number alone is listed
+    case("refused_20_odd", with(pds + 2, 29));
+    case("refused_20_gds", with(gds + 2, 31));
+    case("refused_20_bms", with(bms + 2, 7));
+    case("refused_20_bds", with(bds + 2, 15));
+    case("refused_21_pds", with(pds + 2, 26));
+    case("refused_21_pds_over", {
+        let mut octets = with(pds + 1, 4);
+        octets[pds + 1] = 2;
+        octets
+    });
+    case("refused_21_gds", with(gds + 2, 30));
+    case("refused_21_bms", with(bms + 2, 4));
+    case("refused_21_bds", with(bds + 2, 10));
+    case("refused_22_pds", with(pds + 1, 3));
+    case("refused_22_past_end", with(gds + 1, 1));
+    case("refused_22_bms", with(bms, 1));
+    case("refused_22_bds", with(bds + 2, 16));
+    case("refused_22_no_sections", b"GRIB\0\0\x0C\x017777".to_vec());
+    case("refused_23_one", left_over(small(), 1));
+    case("refused_23_two", left_over(small(), 2));
+    case("refused_23_many", left_over(small(), 150));
     case("refused_6", with(pds + 13, 13));
     case("refused_7", {
         let mut octets = catalogued();
@@ -271,6 +300,13 @@ fn cases() -> Vec<(String, Vec<u8>)> {
     case("refused_8_octant", with(gds + 4, 255));
     // 74 points at the equator
     case("refused_9_octant", with(gds + 33, 74));
+    case("refused_20_octant", with(gds + 2, 177));
+    case("refused_21_octant", with(gds + 2, 30));
+    case("refused_22_octant", with(gds, 1));
+    case(
+        "refused_23_octant",
+        left_over(message(&octant(37, None)), 2),
+    );
     case("refused_12_octant", {
         // without a bitmap section the data section starts 178 octets after
         let mut octets = message(&octant(37, None));

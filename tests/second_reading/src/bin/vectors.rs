@@ -15,6 +15,8 @@ const ABOUT: &str = "Made by `tests/vectors/run --write`. How, and what the vect
 struct Line {
     name: String,
     reply: u32,
+    /// Of 20 to 23 the section and the place.
+    stop: Option<(u32, u32)>,
     rule: String,
 }
 
@@ -25,31 +27,43 @@ struct Made {
     written: String,
 }
 
-/// The page of one of the four tables.
+/// The page of one of the four tables; what is read and what is checked can be
+/// refused by 20 to 23, whose section and place have a column.
 fn page(title: &str, lines: &[Line]) -> Result<String, std::fmt::Error> {
     let mut text = format!("# {title}\n\n{ABOUT}\n");
     write!(text, "\n| reply | vectors |\n|---|---|\n")?;
-    for reply in 0..=19 {
+    for reply in 0..=23 {
         let count = lines.iter().filter(|line| line.reply == reply).count();
         if count > 0 {
             writeln!(text, "| {reply} | {count} |")?;
         }
     }
     writeln!(text, "| all | {} |", lines.len())?;
+    let stops = lines.iter().any(|line| line.stop.is_some());
+    let (heading, rule) = match stops {
+        true => (" section, place |", "---|"),
+        false => ("", ""),
+    };
     write!(
         text,
-        "\n| vector | reply | rule, or what is special |\n|---|---|---|\n"
+        "\n| vector | reply |{heading} rule, or what is special |\n|---|---|{rule}---|\n"
     )?;
     for line in lines {
-        writeln!(text, "| `{}` | {} | {} |", line.name, line.reply, line.rule)?;
+        let Line { name, reply, .. } = line;
+        let stop = match line.stop {
+            Some((section, place)) => format!(" {section}, {place} |"),
+            None if stops => " |".to_string(),
+            None => String::new(),
+        };
+        writeln!(text, "| `{name}` | {reply} |{stop} {} |", line.rule)?;
     }
     Ok(text)
 }
 
 /// The vectors of a table, each held to what is written by hand; the field that
-/// names its file.
+/// names its file, and where of it a section and a place stand.
 macro_rules! table {
-    ($vectors:expr, $file:ident) => {{
+    ($vectors:expr, $file:ident, $stop:expr) => {{
         let mut lines = Vec::new();
         let mut made = Vec::new();
         for vector in $vectors {
@@ -62,6 +76,7 @@ macro_rules! table {
                 written: vector.line(),
             });
             lines.push(Line {
+                stop: $stop(&vector),
                 name: vector.name,
                 reply: vector.reply,
                 rule: vector.rule,
@@ -97,10 +112,10 @@ fn place(out: &str, made: &[Made], counted: bool) -> std::io::Result<()> {
 }
 
 fn run(out: &str) -> std::io::Result<()> {
-    let (reading, read) = table!(read::table().vectors, name);
-    let (writing, mut written) = table!(write::table().vectors, group);
-    let (checking, checked) = table!(check::table().vectors, group);
-    let (packing, packed) = table!(pack::table().vectors, group);
+    let (reading, read) = table!(read::table().vectors, name, |v: &read::Vector| v.stop);
+    let (writing, mut written) = table!(write::table().vectors, group, |_: &_| None);
+    let (checking, checked) = table!(check::table().vectors, group, |v: &check::Vector| v.stop);
+    let (packing, packed) = table!(pack::table().vectors, group, |_: &_| None);
     written.extend(checked);
     written.extend(packed);
     place(&format!("{out}/read_vectors"), &read, false)?;

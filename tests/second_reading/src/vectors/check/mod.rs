@@ -1,12 +1,14 @@
 //! Check vectors: a message, a lent bitmap and a source field at each edge of the
 //! checker's rules.
 //!
-//! * `source`  rules 1 to 12, 18 and 15: the message alone, the source alone, and
-//!   where they differ;
+//! * `source`  rules 1 to 12, 20 to 23 among them, 18 and 15: the message alone, the
+//!   source alone, and where they differ;
 //! * `steps`   rules 16 and 17: R and E, half a step;
 //! * `pairs`   two faults and more at once;
-//! * `octants` thinned octants.
+//! * `octants` thinned octants;
+//! * `lengths` R-2: where the lengths went wrong.
 
+mod lengths;
 mod octants;
 mod pairs;
 mod source;
@@ -15,7 +17,7 @@ mod steps;
 use super::files::{Call, Numbers, Record};
 use super::messages::hex;
 use crate::check::check;
-use crate::{Form, Lent, Source};
+use crate::{Form, Lent, Reply, Source};
 
 /// A message and a source field, and the reply that they must get.
 pub struct Vector {
@@ -28,6 +30,8 @@ pub struct Vector {
     pub source: Source,
     /// By hand: the reply.
     pub reply: u32,
+    /// By hand: the section and the place where a length went wrong, of 20 to 23.
+    pub stop: Option<(u32, u32)>,
 }
 
 impl Vector {
@@ -70,8 +74,23 @@ impl Table {
             lent: Lent::default(),
             source,
             reply,
+            stop: None,
         });
         self.vectors.last_mut().expect("just added")
+    }
+
+    /// A line with one of 20 to 23: also the section and the place, by hand.
+    fn stop(
+        &mut self,
+        (reply, section, place): (u32, u32, u32),
+        name: &str,
+        rule: &str,
+        message: Vec<u8>,
+        source: Source,
+    ) -> &mut Vector {
+        let vector = self.add(reply, name, rule, message, source);
+        vector.stop = Some((section, place));
+        vector
     }
 }
 
@@ -81,6 +100,7 @@ pub fn table() -> Table {
     steps::add(&mut table);
     pairs::add(&mut table);
     octants::add(&mut table);
+    lengths::add(&mut table);
     table
 }
 
@@ -101,7 +121,7 @@ pub(super) fn specimen_field() -> Source {
 }
 
 impl Vector {
-    fn answer(&self) -> u32 {
+    fn answer(&self) -> Reply {
         let Source { numbers, marks, d } = &self.source;
         check(&self.message, &self.lent, numbers, marks, *d)
     }
@@ -109,8 +129,14 @@ impl Vector {
     /// Where what the table says by hand is not what the second reading works
     /// out.
     pub fn disagreement(&self) -> Option<String> {
-        let reply = self.answer();
-        (reply != self.reply).then(|| format!("reply {reply}, not {}", self.reply))
+        let answer = self.answer();
+        let (section, place) = self.stop.unwrap_or_default();
+        let by_hand = Reply {
+            number: self.reply,
+            section,
+            place,
+        };
+        (answer != by_hand).then(|| format!("{answer:?}, not {by_hand:?}"))
     }
 
     /// The vector as it stands in its file.
@@ -133,7 +159,15 @@ impl Vector {
 
     /// The line that the program must write.
     pub fn line(&self) -> String {
-        format!("{} {}\n", self.name, self.answer())
+        let Reply {
+            number,
+            section,
+            place,
+        } = self.answer();
+        match number {
+            20..=23 => format!("{} {number} {section} {place}\n", self.name),
+            _ => format!("{} {number}\n", self.name),
+        }
     }
 }
 

@@ -1,4 +1,5 @@
-//! Two faults and more at once: "Checker: 1 to 12, then 18, 15, 16, 17."
+//! Two faults and more at once: "Checker: 1 to 12, then 18, 15, 16, 17." 5 stands
+//! for a length that went wrong: 20, by the data section's, which starts at 77.
 
 use super::{specimen_field, Table};
 use crate::vectors::read::with_e;
@@ -34,7 +35,10 @@ fn source(faults: &[u32]) -> Source {
 pub fn add(table: &mut Table) {
     table.group("check-pairs");
     let mut add = |reply: u32, name: String, rule: String, faults: &[u32]| {
-        table.add(reply, &name, &rule, message(faults), source(faults));
+        match reply {
+            5 => table.stop((20, 4, 77), &name, &rule, message(faults), source(faults)),
+            _ => table.add(reply, &name, &rule, message(faults), source(faults)),
+        };
     };
     for fault in [15, 16, 17, 18] {
         let rule = "the fault that the pairs have, alone".to_string();
@@ -42,12 +46,13 @@ pub fn add(table: &mut Table) {
     }
     // 1 to 12 come before all of the source's
     for reply in 1..=12 {
+        let first = if reply == 5 { 20 } else { reply };
         for other in [18, 15, 16, 17] {
-            let rule = format!("the first that applies: {reply} before {other}");
+            let rule = format!("the first that applies: {first} before {other}");
             let name = format!("check-pair-{reply}-and-{other}");
             add(reply, name, rule, &[reply, other]);
         }
-        let rule = format!("the first that applies: {reply} before 18, 15, 16, 17");
+        let rule = format!("the first that applies: {first} before 18, 15, 16, 17");
         let faults = [reply, 18, 15, 16, 17];
         add(reply, format!("check-all-from-{reply}"), rule, &faults);
     }

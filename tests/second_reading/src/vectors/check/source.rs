@@ -1,5 +1,5 @@
-//! Rules 1 to 12, 18 and 15: the message alone, the source alone, and where they
-//! differ.
+//! Rules 1 to 12, 20 to 23 among them, 18 and 15: the message alone, the source
+//! alone, and where they differ.
 
 use super::{field, specimen_field, Table};
 use crate::vectors::messages::{flat, hex, plain, row, specimen, stored, Sections};
@@ -43,13 +43,13 @@ fn messages(table: &mut Table) {
     );
     table.add(2, "check-8-octets", "8 octets pass 1", vec![0; 8], right());
     for number in 1..=12 {
-        table.add(
-            number,
-            &format!("check-message-{number}"),
-            "1 to 12 as the reader gives them",
-            with(&[number]),
-            right(),
-        );
+        let name = format!("check-message-{number}");
+        let rule = "1 to 12 as the reader gives them, 20 to 23 among them";
+        let message = with(&[number]);
+        match number {
+            5 => table.stop((20, 4, 77), &name, rule, message, right()),
+            _ => table.add(number, &name, rule, message, right()),
+        };
     }
     let rule = "10: no such stored bitmap";
     for (reply, name, number, octets) in [

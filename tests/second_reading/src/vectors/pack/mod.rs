@@ -176,7 +176,7 @@ impl Vector {
             reply,
             message: message.to_vec(),
             kept: after == &before[length as usize..],
-            checked: check(message, &self.lent, numbers, marks, *d),
+            checked: check(message, &self.lent, numbers, marks, *d).number,
         }
     }
 

@@ -1,4 +1,5 @@
-//! Rules 1 to 5: what the slice is, and the walk over the sections.
+//! Rules 1 to 4, and R-2's 20 to 23 in the place of 5: what the slice is, and the
+//! walk over the sections.
 
 use super::Table;
 use crate::vectors::messages::{
@@ -47,16 +48,16 @@ fn sizes(table: &mut Table) {
     table.add(4, "1-octets-8", after, b"GRIB\0\0\x08\x01".to_vec());
     table.add(4, "1-octets-9", after, b"GRIB\0\0\x09\x017".to_vec());
     table.add(4, "1-octets-11", after, b"GRIB\0\0\x0B\x01777".to_vec());
-    table.add(
-        5,
+    table.stop(
+        (22, 1, 9),
         "1-octets-12",
         "12 octets pass 1 and 4: no room for a section length",
         b"GRIB\0\0\x0C\x017777".to_vec(),
     );
-    table.add(
-        5,
+    table.stop(
+        (20, 4, 69),
         "1-octets-262143",
-        "an odd total needs an odd section length",
+        "20: an odd total needs an odd section length",
         sized(262_143),
     );
     table.add(
@@ -144,43 +145,61 @@ fn indicator(table: &mut Table) {
 fn lengths(table: &mut Table) {
     // Every section length below is that of the section as it stands, so that
     // the walk lands and only the named bound is touched.
-    for (reply, length, rule) in [
-        (5, 26, "5: a section length under its least (PDS 28)"),
-        (5, 27, "5: a section length is odd"),
-        (0, 28, "the least PDS"),
-        (5, 29, "5: a section length is odd"),
-        (0, 30, "an even PDS length"),
-        (0, 256, "a PDS length in two octets"),
-        (0, 1_022, "an even PDS length"),
-        (5, 1_023, "5: a section length is odd"),
-        (0, 1_024, "the longest PDS"),
-        (5, 1_025, "5: PDS over 1,024, and odd"),
-        (5, 1_026, "5: PDS over 1,024"),
+    for (length, reply, rule) in [
+        (26, 21, "21: under its least (PDS 28)"),
+        (27, 20, "20 before 21: odd, and under its least"),
+        (29, 20, "20: odd length"),
+        (1_023, 20, "20: odd length"),
+        (1_025, 20, "20 before 21: odd, and PDS over 1,024"),
+        (1_026, 21, "21: PDS over 1,024"),
     ] {
         let mut sections = plain();
         sections.pds = resized(&sections.pds, length);
-        table.add(reply, &format!("5-pds-{length}"), rule, sections.message());
+        let name = format!("5-pds-{length}");
+        table.stop((reply, 1, 9), &name, rule, sections.message());
+    }
+    for (length, rule) in [
+        (28, "the least PDS"),
+        (30, "an even PDS length"),
+        (256, "a PDS length in two octets"),
+        (1_022, "an even PDS length"),
+        (1_024, "the longest PDS"),
+    ] {
+        let mut sections = plain();
+        sections.pds = resized(&sections.pds, length);
+        table.add(0, &format!("5-pds-{length}"), rule, sections.message());
+    }
+    for (length, reply, rule) in [
+        (30, 21, "21: under its least (GDS 32)"),
+        (31, 20, "20 before 21: odd, and under its least"),
+        (33, 20, "20: odd length, before 8"),
+    ] {
+        let mut sections = plain();
+        sections.gds = resized(&sections.gds, length);
+        let name = format!("5-gds-{length}");
+        table.stop((reply, 2, 37), &name, rule, sections.message());
     }
     for (reply, length, rule) in [
-        (5, 30, "5: a section length under its least (GDS 32)"),
-        (5, 31, "5: a section length is odd"),
         (0, 32, "the GDS length"),
-        (5, 33, "5: a section length is odd, before 8"),
         (8, 34, "8: GDS length is not 32, and the walk lands"),
     ] {
         let mut sections = plain();
         sections.gds = resized(&sections.gds, length);
         table.add(reply, &format!("5-gds-{length}"), rule, sections.message());
     }
-    for (reply, length, rule) in [
-        (5, 4, "5: a section length under its least (BMS 6)"),
-        (5, 5, "5: a section length is odd"),
-        (10, 6, "the least BMS passes 5; number 0 with no bits is 10"),
+    for (length, reply, rule) in [
+        (4, 21, "21: under its least (BMS 6)"),
+        (5, 20, "20 before 21: odd, and under its least"),
     ] {
         let mut sections = specimen();
         sections.bms = resized(&sections.bms, length);
-        table.add(reply, &format!("5-bms-{length}"), rule, sections.message());
+        let name = format!("5-bms-{length}");
+        table.stop((reply, 3, 69), &name, rule, sections.message());
     }
+    let rule = "the least BMS is long enough; number 0 with no bits is 10";
+    let mut sections = specimen();
+    sections.bms = resized(&sections.bms, 6);
+    table.add(10, "5-bms-6", rule, sections.message());
     table
         .add(0, "5-bms-6-stored", "the least BMS, of a stored bitmap", {
             let mut sections = specimen();
@@ -188,117 +207,105 @@ fn lengths(table: &mut Table) {
             sections.message()
         })
         .lend(9, &[0xD0]);
-    table.add(5, "5-bms-7", "5: odd, though 8 x (7 - 6) - 4 = 4 points", {
+    let rule = "20: odd, though 8 x (7 - 6) - 4 = 4 points";
+    table.stop((20, 3, 69), "5-bms-7", rule, {
         let mut sections = specimen();
         sections.bms = hex("000007 04 0000 D0");
         sections.message()
     });
     table.add(0, "5-bms-8", "an even BMS length", specimen().message());
+    let of = |bds: &str| {
+        let sections = Sections {
+            bds: hex(bds),
+            ..plain()
+        };
+        sections.message()
+    };
     for (reply, name, bds, rule) in [
         (
-            5,
+            21,
             "5-bds-10",
             "00000A 08 0000 439C4000",
-            "5: a section length under its least (BDS 12)",
+            "21: under its least (BDS 12)",
         ),
         (
-            5,
+            20,
             "5-bds-11",
             "00000B 00 0000 439C4000 00",
-            "5: odd and under its least, though 8 x (11 - 11) - 0 = 0 bits",
+            "20 before 21: odd and under its least, though 8 x (11 - 11) - 0 = 0 bits",
         ),
         (
-            0,
-            "5-bds-12",
-            "00000C 08 0000 439C4000 00 00",
-            "the least BDS",
-        ),
-        (
-            5,
+            20,
             "5-bds-13",
             "00000D 04 0000 439C4000 03 0AF0",
-            "5: odd, though 8 x (13 - 11) - 4 = 12 bits",
+            "20: odd, though 8 x (13 - 11) - 4 = 12 bits",
         ),
+    ] {
+        table.stop((reply, 4, 69), name, rule, of(bds));
+    }
+    for (name, bds, rule) in [
+        ("5-bds-12", "00000C 08 0000 439C4000 00 00", "the least BDS"),
         (
-            0,
             "5-bds-14",
             "00000E 0C 0000 439C4000 03 0AF000",
             "an even BDS length",
         ),
     ] {
-        let sections = Sections {
-            bds: hex(bds),
-            ..plain()
-        };
-        table.add(reply, name, rule, sections.message());
+        table.add(0, name, rule, of(bds));
     }
-    for (name, section) in [
-        ("5-pds-0", 1),
-        ("5-gds-0", 2),
-        ("5-bms-0", 3),
-        ("5-bds-0", 4),
+    for (name, section, place) in [
+        ("5-pds-0", 1, 9),
+        ("5-gds-0", 2, 37),
+        ("5-bms-0", 3, 69),
+        ("5-bds-0", 4, 77),
     ] {
-        let sections = match section {
-            1 => specimen().pds(1, &[0, 0, 0]),
-            2 => specimen().gds(1, &[0, 0, 0]),
-            3 => specimen().bms(1, &[0, 0, 0]),
-            _ => specimen().bds(1, &[0, 0, 0]),
-        };
-        table.add(5, name, "5: a section length of 0", sections.message());
+        let mut sections = specimen();
+        set_length(sections.section(section), 0);
+        let rule = "21: a section length of 0";
+        table.stop((21, section, place), name, rule, sections.message());
     }
 }
 
 fn ends(table: &mut Table) {
     // In the specimen the PDS starts at octet 9, the GDS at 37, the BMS at 69,
     // the BDS at 77, and the end section at 91.
-    let passes = "5: its section passes the end section's start";
+    let passes = "22: its section passes the end section's start";
     for (name, length) in [("5-pds-passes", 84), ("5-pds-passes-far", 1_024)] {
         let mut sections = specimen();
         set_length(&mut sections.pds, length);
-        table.add(5, name, passes, sections.message());
+        table.stop((22, 1, 9), name, passes, sections.message());
     }
-    let mut sections = specimen();
-    set_length(&mut sections.gds, 56);
-    table.add(5, "5-gds-passes", passes, sections.message());
-    table.add(
-        5,
-        "5-gds-passes-far",
-        passes,
-        specimen().gds(1, &[1]).message(),
-    );
-    table.add(
-        5,
-        "5-bms-passes",
-        passes,
-        specimen().bms(3, &[24]).message(),
-    );
-    table.add(
-        5,
-        "5-bms-passes-far",
-        passes,
-        specimen().bms(1, &[255, 255, 254]).message(),
-    );
-    table.add(
-        5,
-        "5-bds-passes",
-        passes,
-        specimen().bds(3, &[16]).message(),
-    );
-    table.add(
-        5,
-        "5-bds-passes-far",
-        passes,
-        specimen().bds(1, &[255, 255, 254]).message(),
-    );
-    table.add(
-        5,
+    for (name, first, put) in [
+        ("5-gds-passes", 3, &[56][..]),
+        ("5-gds-passes-far", 1, &[1]),
+    ] {
+        let message = specimen().gds(first, put).message();
+        table.stop((22, 2, 37), name, passes, message);
+    }
+    for (name, first, put) in [
+        ("5-bms-passes", 3, &[24][..]),
+        ("5-bms-passes-far", 1, &[255, 255, 254]),
+    ] {
+        let message = specimen().bms(first, put).message();
+        table.stop((22, 3, 69), name, passes, message);
+    }
+    for (name, first, put) in [
+        ("5-bds-passes", 3, &[16][..]),
+        ("5-bds-passes-far", 1, &[255, 255, 254]),
+    ] {
+        let message = specimen().bds(first, put).message();
+        table.stop((22, 4, 77), name, passes, message);
+    }
+    table.stop(
+        (22, 4, 77),
         "5-bds-to-the-end",
-        "5: the data section takes the end section in",
+        "22: the data section takes the end section in",
         specimen().bds(3, &[18]).message(),
     );
 
-    let short = "5: the sections don't reach the end section's start";
-    table.add(5, "5-bds-short", short, specimen().bds(3, &[12]).message());
+    let short = "23: octets left over";
+    let message = specimen().bds(3, &[12]).message();
+    table.stop((23, 5, 89), "5-bds-short", short, message);
     for (name, more) in [
         ("5-one-left-over", 1),
         ("5-two-left-over", 2),
@@ -306,10 +313,10 @@ fn ends(table: &mut Table) {
     ] {
         let mut sections = plain();
         sections.bds.resize(14 + more, 0);
-        table.add(5, name, short, sections.message());
+        table.stop((23, 5, 83), name, short, sections.message());
     }
 
-    let octets_pass = "5: a length's octets pass the end section's start";
+    let octets_pass = "22: a length whose own octets don't fit";
     for (name, left) in [
         ("5-pds-none-left", 0),
         ("5-pds-one-left", 1),
@@ -321,60 +328,64 @@ fn ends(table: &mut Table) {
             bms: Vec::new(),
             bds: Vec::new(),
         };
-        table.add(5, name, octets_pass, sections.message());
+        table.stop((22, 1, 9), name, octets_pass, sections.message());
     }
-    for (name, flags, left) in [
-        ("5-gds-none-left", 0x80, 0),
-        ("5-gds-two-left", 0x80, 2),
-        ("5-bms-none-left", 0x40, 0),
-        ("5-bms-two-left", 0x40, 2),
-        ("5-bds-none-left", 0x00, 0),
-        ("5-bds-one-left", 0x00, 1),
-        ("5-bds-two-left", 0x00, 2),
+    // what follows a PDS of 28 octets starts at 37, whichever section it is
+    for (name, section, flags, left) in [
+        ("5-gds-none-left", 2, 0x80, 0),
+        ("5-gds-two-left", 2, 0x80, 2),
+        ("5-bms-none-left", 3, 0x40, 0),
+        ("5-bms-two-left", 3, 0x40, 2),
+        ("5-bds-none-left", 4, 0x00, 0),
+        ("5-bds-one-left", 4, 0x00, 1),
+        ("5-bds-two-left", 4, 0x00, 2),
     ] {
         let mut sections = listed(29).pds(8, &[flags]);
         sections.bds = vec![0; left];
-        table.add(5, name, octets_pass, sections.message());
+        table.stop((22, section, 37), name, octets_pass, sections.message());
     }
-    for (name, length) in [("5-gds-to-the-end", 54), ("5-pds-to-the-end", 82)] {
+    // the end section starts at 91, and the next section announced with it
+    for (name, section, next, length) in [
+        ("5-gds-to-the-end", 2, 3, 54),
+        ("5-pds-to-the-end", 1, 2, 82),
+    ] {
         let mut sections = specimen();
-        if length == 54 {
-            set_length(&mut sections.gds, length);
-        } else {
-            set_length(&mut sections.pds, length);
-        }
-        table.add(5, name, octets_pass, sections.message());
+        set_length(sections.section(section), length);
+        table.stop((22, next, 91), name, octets_pass, sections.message());
     }
 
-    let announced = "5: the walk goes by the sections that PDS octet 8 announces";
-    table.add(
-        5,
-        "5-gds-unannounced",
-        announced,
-        plain().pds(8, &[0x00]).message(),
-    );
-    table.add(
-        5,
-        "5-bms-unannounced",
-        announced,
-        specimen().pds(8, &[0x80]).message(),
-    );
-    table.add(
-        5,
-        "5-gds-missing",
-        announced,
-        listed(29).pds(8, &[0x80]).message(),
-    );
-    table.add(
-        5,
-        "5-bms-missing",
-        announced,
-        plain().pds(8, &[0xC0]).message(),
-    );
-    table.add(
-        5,
+    for (stop, name, rule, sections) in [
+        (
+            (23, 5, 69),
+            "5-gds-unannounced",
+            "23: without a GDS announced, its 32 octets are the data section",
+            plain().pds(8, &[0x00]),
+        ),
+        (
+            (21, 4, 69),
+            "5-bms-unannounced",
+            "21: without a BMS announced, its 8 octets are the data section",
+            specimen().pds(8, &[0x80]),
+        ),
+        (
+            (21, 2, 37),
+            "5-gds-missing",
+            "21: with a GDS announced, the data section's 12 octets are it",
+            listed(29).pds(8, &[0x80]),
+        ),
+        (
+            (22, 4, 83),
+            "5-bms-missing",
+            "22: with a BMS announced, the data section is it, and nothing is left",
+            plain().pds(8, &[0xC0]),
+        ),
+    ] {
+        table.stop(stop, name, rule, sections.message());
+    }
+    table.stop(
+        (21, 2, 37),
         "5-sections-swapped",
-        "5: the GDS stands before the BMS",
+        "21: the GDS stands before the BMS, whose 8 octets are too few",
         {
             let mut sections = specimen();
             std::mem::swap(&mut sections.gds, &mut sections.bms);
@@ -382,23 +393,23 @@ fn ends(table: &mut Table) {
         },
     );
 
-    // 5 before 8, 10 and 12, where one length breaks two rules
-    table.add(
-        5,
+    // 20 to 23 before 8, 10 and 12, where one length breaks two rules
+    table.stop(
+        (22, 3, 71),
         "5-before-8",
-        "5 before 8: a GDS of 34 with which the walk does not land",
+        "22 before 8: a GDS of 34, and then a BMS of 080C00 octets (hex)",
         specimen().gds(3, &[34]).message(),
     );
-    table.add(
-        5,
+    table.stop(
+        (22, 4, 75),
         "5-before-10",
-        "5 before 10: a BMS of 6 with which the walk does not land",
+        "22 before 10: a BMS of 6, and then a BDS of D00000 octets (hex)",
         specimen().bms(3, &[6]).message(),
     );
-    table.add(
-        5,
+    table.stop(
+        (20, 4, 69),
         "5-before-12",
-        "5 before 12: a BDS of 13, too short for its data",
+        "20 before 12: a BDS of 13, too short for its data",
         {
             let mut sections = row(5, "", 8, "00000001 00000010 00000011 00000100 00000101");
             sections.bds = resized(&sections.bds, 13);

@@ -136,8 +136,10 @@ fn longer(table: &mut Table) {
         let mut sections = specimen();
         sections.pds.resize(length, 0);
         set_length(&mut sections.pds, length);
+        let rule =
+            "the GDS follows the PDS; looked for at octet 37 it would have length 0, refused by 21";
         table
-            .add(0, name, "the GDS follows the PDS; looked for at octet 37 it would have length 0, refused by 5", sections.message())
+            .add(0, name, rule, sections.message())
             .points(&[Some(0), Some(2), None, Some(7)]);
     }
     // octets 29-60 of the PDS look like a grid section of 1 x 3 points

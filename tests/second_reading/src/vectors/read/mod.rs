@@ -1,5 +1,5 @@
 //! Reading vectors: messages at each edge of the rules, each with the reply that
-//! document 01 gives it.
+//! document 01 gives it, or a request of document 02.
 //!
 //! The messages are put together here octet by octet, in the terms of document
 //! 01, and every reply is written by hand in the table. Neither the writer nor
@@ -7,23 +7,28 @@
 //! reading to the table, and the program crate `read_vectors` holds the codec to
 //! both.
 //!
-//! * `layout`   rules 1 to 5: sizes, the walk over the sections;
+//! * `layout`   rules 1 to 4, and 20 to 23 in the place of 5: sizes, the walk over
+//!   the sections;
 //! * `fields`   rules 6 to 9: time, grid;
 //! * `data`     rules 10 to 12 and 14: bitmap, packing, data length, room;
 //! * `pairs`    two faults and more at once;
 //! * `taken`    messages that must be accepted;
 //! * `misread`  the misreadings that document 01 names;
-//! * `octants`  thinned octants, with and without their GDS.
+//! * `octants`  thinned octants, with and without their GDS;
+//! * `lengths`  R-2: where the lengths went wrong, in each section and each way;
+//! * `order`    R-2: two lengths that went wrong, and 20 to 23 beside other faults.
 
 mod data;
 mod fields;
 mod layout;
+mod lengths;
 mod misread;
 mod octants;
+mod order;
 mod pairs;
 mod taken;
 
-pub(super) use pairs::{with, with_e};
+pub(super) use pairs::{with, with_e, with_lengths};
 
 use super::files::three;
 use crate::again::first_changed;
@@ -43,6 +48,8 @@ pub struct Vector {
     pub marks_room: usize,
     /// By hand: the reply.
     pub reply: u32,
+    /// By hand: the section and the place where a length went wrong, of 20 to 23.
+    pub stop: Option<(u32, u32)>,
     /// By hand: fields of the answer, by name.
     pub says: Vec<(&'static str, i64)>,
     /// By hand: each point's value, nothing where it is absent.
@@ -93,10 +100,24 @@ impl Table {
             values_room: 32,
             marks_room: 32,
             reply,
+            stop: None,
             says: Vec::new(),
             points: None,
         });
         self.vectors.last_mut().expect("just added")
+    }
+
+    /// A line with one of 20 to 23: also the section and the place, by hand.
+    fn stop(
+        &mut self,
+        (reply, section, place): (u32, u32, u32),
+        name: &str,
+        rule: &str,
+        message: Vec<u8>,
+    ) -> &mut Vector {
+        let vector = self.add(reply, name, rule, message);
+        vector.stop = Some((section, place));
+        vector
     }
 }
 
@@ -109,6 +130,8 @@ pub fn table() -> Table {
     taken::add(&mut table);
     misread::add(&mut table);
     octants::add(&mut table);
+    lengths::add(&mut table);
+    order::add(&mut table);
     table
 }
 
@@ -164,6 +187,11 @@ impl Vector {
         if answer.header.reply != self.reply {
             return Some(format!("reply {}, not {}", answer.header.reply, self.reply));
         }
+        let stop = (answer.header.section, answer.header.place);
+        let by_hand = self.stop.unwrap_or_default();
+        if stop != by_hand {
+            return Some(format!("section and place {stop:?}, not {by_hand:?}"));
+        }
         if !answer.kept {
             return Some("elements changed that must stay".to_string());
         }
@@ -213,12 +241,18 @@ impl Vector {
         let header = &answer.header;
         let kept = if answer.kept { "kept" } else { "changed" };
         if header.reply != 0 {
-            let zero = Header {
+            // "They alone return two fields that may not be zero."
+            let mut zero = Header {
                 reply: header.reply,
                 ..Header::default()
             };
+            let mut stop = String::new();
+            if (20..=23).contains(&header.reply) {
+                (zero.section, zero.place) = (header.section, header.place);
+                stop = format!(" {} {}", header.section, header.place);
+            }
             let zeros = if *header == zero { " zeros" } else { "" };
-            return format!("{} {}{zeros} {kept}\n", self.name, header.reply);
+            return format!("{} {}{stop}{zeros} {kept}\n", self.name, header.reply);
         }
         let kind = match header.bitmap {
             BitmapKind::Without => "without".to_string(),

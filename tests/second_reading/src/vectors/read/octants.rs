@@ -229,28 +229,37 @@ fn grid_section(table: &mut Table) {
             let name = format!("length-{length}-255");
             add(8, &name, rule, octant.long(length).gds(5, &[255]));
         }
-        for length in [177, 179] {
-            let name = format!("length-{length}");
-            let rule = "5: a section length is odd, before 8";
-            add(5, &name, rule, octant.long(length));
-        }
-        for length in [32, 176, 180] {
-            let mut sections = octant.flat();
-            set_length(&mut sections.gds, length);
-            let name = format!("says-{length}");
-            let rule = "5 before 8: a GDS length with which the walk does not land";
-            add(5, &name, rule, sections);
-        }
-        let mut cut = octant.flat();
-        cut.gds.truncate(176);
-        let rule = "5: a GDS of 176 octets that says 178";
-        add(5, "cut", rule, cut);
         add(
             9,
             "length-32-octet-5-255",
             "9: a GDS of 32 octets is a rectangle's, and its Ni may not be missing",
             octant.long(32).gds(5, &[255]),
         );
+        // the GDS starts at 37, so the data section 178 octets after, at 215
+        let mut stop = |stop: (u32, u32, u32), name: &str, rule: &str, sections: Sections| {
+            let name = format!("5-octant-{}-{name}", octant.number);
+            table
+                .stop(stop, &name, rule, sections.message())
+                .room(ROOM, ROOM);
+        };
+        for length in [177, 179] {
+            let name = format!("length-{length}");
+            let rule = "20: odd length, before 8";
+            stop((20, 2, 37), &name, rule, octant.long(length));
+        }
+        // what is then read as the data section's length is even and far too long: two
+        // counts, a count and the section's own first octet, its third octet on
+        for (length, place) in [(32, 69), (176, 213), (180, 217)] {
+            let mut sections = octant.flat();
+            set_length(&mut sections.gds, length);
+            let name = format!("says-{length}");
+            let rule = "22 before 8: a GDS length with which the walk does not land";
+            stop((22, 4, place), &name, rule, sections);
+        }
+        let mut cut = octant.flat();
+        cut.gds.truncate(176);
+        let rule = "22: a GDS of 176 octets that says 178, and the BDS is looked for 2 too late";
+        stop((22, 4, 215), "cut", rule, cut);
     }
     // a rectangle's fields in 178 octets
     let long = |octet_5: u8| {
@@ -273,10 +282,10 @@ fn grid_section(table: &mut Table) {
         "9: a rectangle's fields with an octant's counts",
         long(33).gds(33, &NORTH.gds()[32..]).message(),
     );
-    table.add(
-        5,
+    table.stop(
+        (22, 2, 37),
         "5-gds-says-178",
-        "5: a GDS of 32 octets that says 178",
+        "22: a GDS of 32 octets that says 178",
         plain().gds(3, &[178]).message(),
     );
 }
@@ -517,8 +526,8 @@ fn room(table: &mut Table) {
 }
 
 /// Grid 37 with a carried bitmap and these faults, each of which alone gets the
-/// reply that is its number. 7 is only possible without a GDS, 8 and 9 only with
-/// one.
+/// reply that is its number, but for 5, which stands for a length that went wrong:
+/// 20. 7 is only possible without a GDS, 8 and 9 only with one.
 fn with(faults: &[u32]) -> Vec<u8> {
     let has = |number| faults.contains(&number);
     let mut sections = NORTH.rowed(!has(7), Present::Firsts, 7);
@@ -549,16 +558,20 @@ fn with(faults: &[u32]) -> Vec<u8> {
 fn pairs(table: &mut Table) {
     let mut add = |reply: u32, name: String, rule: String, faults: &[u32]| {
         let room = if faults.contains(&14) { 3_446 } else { ROOM };
-        table
-            .add(reply, &name, &rule, with(faults))
-            .room(room, room);
+        // the BMS has 438 octets from 215 on, or without a GDS from 37 on
+        let place = if faults.contains(&7) { 475 } else { 653 };
+        let vector = match reply {
+            5 => table.stop((20, 4, place), &name, &rule, with(faults)),
+            _ => table.add(reply, &name, &rule, with(faults)),
+        };
+        vector.room(room, room);
     };
     add(0, "octant-alone-0".into(), "no fault".into(), &[]);
     for fault in [5, 6, 7, 8, 9, 10, 11, 12, 14] {
         let rule = "the fault that the pairs have, alone".into();
         add(fault, format!("octant-alone-{fault}"), rule, &[fault]);
     }
-    // the reply is the lower number
+    // the reply is the lower number, and 5 stands for 20
     for (reply, others) in [
         (5, &[6, 7, 8, 9, 10, 11, 12, 14][..]),
         (6, &[7, 8, 9, 10, 11, 12, 14]),
@@ -571,7 +584,8 @@ fn pairs(table: &mut Table) {
     ] {
         for &other in others {
             let name = format!("octant-pair-{reply}-and-{other}");
-            let rule = format!("the first that applies: {reply} before {other}");
+            let first = if reply == 5 { 20 } else { reply };
+            let rule = format!("the first that applies: {first} before {other}");
             add(reply, name, rule, &[reply, other]);
         }
     }
