@@ -32,8 +32,8 @@ extern "C" {
  * a function, and a new third one changes none. */
 #define GRIB1_VERSION_MAJOR 0
 #define GRIB1_VERSION_MINOR 4
-#define GRIB1_VERSION_PATCH 0
-#define GRIB1_VERSION "0.4.0"
+#define GRIB1_VERSION_PATCH 1
+#define GRIB1_VERSION "0.4.1"
 
 /* The rules' bounds, and what to lend. */
 #define GRIB1_MESSAGE_LEAST 8          /* octets of a message */
@@ -90,7 +90,9 @@ enum grib1_reply {
     GRIB1_TOTAL = 4,           /* total length is not the slice's, or last four octets not '7777' */
     GRIB1_LENGTHS = 5,         /* writing and packing alone, reading never gives it: the length of the PDS given is odd,
                                   below 28 or above 1,024 octets, or not what its octets 1-3 say */
-    GRIB1_TIME = 6,            /* time out of its ranges */
+    GRIB1_TIME = 6,            /* time out of its ranges: century 18 to 99 (PDS octet 25), year of century 1 to 100
+                                  (13), month 1 to 12 (14), a day of that month (15), hour 0 to 23 (16), minute 0 to 59
+                                  (17) */
     GRIB1_NO_GRID = 7,         /* no GDS, octet 7 not in the catalogue */
     GRIB1_GDS = 8,             /* GDS length or octets 4 to 6 not as the rules say */
     GRIB1_GRID = 9,            /* Ni, Nj, n, a latitude, a longitude or the scan test outside the rules, or a thinned
@@ -202,7 +204,7 @@ typedef struct {
     Grib1Part bms;             /* the Bit Map Section; len 0 where it is absent */
     Grib1Part bds;             /* the Binary Data Section */
     uint16_t bitmap_number;    /* the bitmap's number where it is a stored one, else 0 */
-    uint16_t year;             /* reference time: the whole year */
+    uint16_t year;             /* reference time: the whole year, 1701 to 9900 */
     uint8_t month;             /* 1 to 12 */
     uint8_t day;               /* 1 to 31 */
     uint8_t hour;              /* 0 to 23 */
@@ -313,7 +315,10 @@ Grib1Written grib1_length(const uint8_t *pds, size_t pds_len, Grib1Form form, ui
 
 /* Writes the message of a PDS, a form, E and R's four octets, and n values and n marks. Reads pds, store, values and
  * marks; fills the message's octets of out and leaves later ones. GRIB1_WRITTEN_MOST octets of out hold any message,
- * and grib1_length tells what this one takes. */
+ * and grib1_length tells what this one takes.
+ *
+ * The PDS is the caller's, its time too. A year has one spelling there: its century, (year - 1) / 100 + 1, in octet 25
+ * and its year of century, (year - 1) % 100 + 1, in octet 13. So 2000 is 20 and 100, and 2001 is 21 and 1. */
 Grib1Written grib1_write(const uint8_t *pds, size_t pds_len, Grib1Form form, int32_t e, uint32_t r,
     uint16_t store_number, const uint8_t *store, size_t store_len, const uint32_t *values, size_t values_len,
     const uint8_t *marks, size_t marks_len, uint8_t *out, size_t out_len);

@@ -72,7 +72,7 @@ pub enum Bitmap {
     Stored(u16),
 }
 
-/// The reference time of a field.
+/// The reference time of a field, with the whole year: 1701 to 9900.
 #[derive(Clone, Copy, Debug, PartialEq, Eq)]
 pub struct Moment {
     pub year: u16,
@@ -130,7 +130,8 @@ pub struct Form {
     pub bits: u8,
 }
 
-/// What the writer is given.
+/// What the writer is given. A year has one spelling in the PDS: its century, (year − 1) / 100 + 1, in octet 25 and its
+/// year of century, (year − 1) % 100 + 1, in octet 13. So 2000 is 20 and 100, and 2001 is 21 and 1.
 #[derive(Clone, Copy, Debug)]
 pub struct Parts<'a> {
     pub pds: &'a [u8],

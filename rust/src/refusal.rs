@@ -24,7 +24,7 @@ pub struct Stop {
     pub place: u32,
 }
 
-// What each number says, after document 01's table and document 02's R-2.
+// What each number says, after document 01's table and document 02's R-2 and R-3.
 const WORDS: [&str; 24] = [
     "accepted",
     "slice below 8 or above 262,144 octets",
@@ -32,7 +32,8 @@ const WORDS: [&str; 24] = [
     "edition not 1",
     "total length is not the slice's, or last four octets not '7777'",
     "the length of the PDS given is odd, below 28 or above 1,024 octets, or not what its octets 1 to 3 say",
-    "time out of its ranges",
+    "time out of its ranges: century 18 to 99, year of century 1 to 100, month 1 to 12, a day of that month, \
+     hour 0 to 23, minute 0 to 59",
     "no GDS, octet 7 not in the catalogue",
     "GDS length or octets 4 to 6 not as the rules say",
     "Ni, Nj, n, a latitude, a longitude or the scan test outside the rules, or a thinned grid that is none of the \

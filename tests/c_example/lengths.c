@@ -5,43 +5,12 @@
 #include <string.h>
 
 #define TEST "lengths.c"
-#include "same.h"
-#include "specimen.h"
+#include "refused.h"
 
 /* where the specimen's sections start, its first octet being 1; the end section starts at 91 */
 enum { PDS = 9, GDS = 37, BMS = 69, BDS = 77, ROOM = 256 };
 
 static uint8_t message[ROOM];
-
-static const int32_t numbers[4] = {2500, 2502, 77, 2507};
-static const uint8_t marks[4] = {1, 1, 0, 1};
-
-/* what every function says of the message at hand, which is refused */
-static void refused(int line, size_t len, uint32_t reply, uint32_t section, uint32_t place)
-{
-    uint32_t values[4] = {9, 9, 9, 9}, k;
-    uint8_t read_marks[4] = {9, 9, 9, 9};
-    Grib1Display d = grib1_display(message, len, 0, none, 0);
-    Grib1Checked c = grib1_check(message, len, 0, none, 0, numbers, 4, marks, 4, 1);
-
-    same_stop(line, grib1_header(message, len, 0, none, 0), reply, section, place);
-    same_stop(line, grib1_read(message, len, 0, none, 0, values, 4, read_marks, 4), reply, section, place);
-    same_stop(line, grib1_read(message, len, 0, none, 0, values, 0, read_marks, 0), reply, section, place);
-    for (k = 0; k < 4; k++) {
-        same_at(line, values[k], 9);
-        same_at(line, read_marks[k], 9);
-    }
-    same_reply(line, d, reply, section, place);
-    same_at(line, d.reference, 0);
-    same_at(line, d.step, 0);
-    same_reply(line, c, reply, section, place);
-    c = grib1_check(message, len, 0, none, 0, numbers, 0, marks, 1, 2); /* its own replies come after */
-    same_reply(line, c, reply, section, place);
-    for (k = 0; k < 6; k++)
-        same_part(line, grib1_section(message, len, 0, none, 0, k), 0, 0, 0);
-    same_part(line, grib1_bitmap(message, len, 0, none, 0), 0, 0, 0);
-    same_at(line, grib1_data_number(message, len, 0, none, 0, 0).kind, GRIB1_OUTSIDE);
-}
 
 static void say(uint32_t start, uint32_t length)
 {
@@ -55,7 +24,7 @@ static void said(int line, uint32_t start, uint32_t length, uint32_t reply, uint
 {
     memcpy(message, specimen, 94);
     say(start, length);
-    refused(line, 94, reply, section, place);
+    refused(line, message, 94, reply, section, place);
 }
 
 #define odd(start, section, length) said(__LINE__, start, length, GRIB1_LENGTH_ODD, section, start)
@@ -120,7 +89,7 @@ static void hollow(uint8_t len, uint32_t reply)
     message[6] = len;
     message[7] = 1;
     memcpy(message + len - 4, "7777", 4);
-    refused(__LINE__, len, reply, GRIB1_SECTION_PDS, PDS);
+    refused(__LINE__, message, len, reply, GRIB1_SECTION_PDS, PDS);
 }
 
 /* the specimen with zeros before its end section */
@@ -130,7 +99,7 @@ static void longer(uint8_t more)
     memcpy(message, specimen, 90);
     message[6] = (uint8_t)(94 + more);
     memcpy(message + 90 + more, specimen + 90, 4);
-    refused(__LINE__, 94u + more, GRIB1_LEFT_OVER, GRIB1_SECTION_END, 91);
+    refused(__LINE__, message, 94u + more, GRIB1_LEFT_OVER, GRIB1_SECTION_END, 91);
 }
 
 /* two faults: the one nearest the front is told, after 4 and before 6; a section that is not announced has none */
@@ -139,21 +108,21 @@ static void the_first(void)
     memcpy(message, specimen, 94);
     say(BDS, 13);
     say(BMS, 4);
-    refused(__LINE__, 94, GRIB1_LENGTH_BOUNDS, GRIB1_SECTION_BMS, BMS);
+    refused(__LINE__, message, 94, GRIB1_LENGTH_BOUNDS, GRIB1_SECTION_BMS, BMS);
     say(GDS, 56);
-    refused(__LINE__, 94, GRIB1_LENGTH_PASSES, GRIB1_SECTION_GDS, GDS);
+    refused(__LINE__, message, 94, GRIB1_LENGTH_PASSES, GRIB1_SECTION_GDS, GDS);
     say(PDS, 27);
-    refused(__LINE__, 94, GRIB1_LENGTH_ODD, GRIB1_SECTION_PDS, PDS);
+    refused(__LINE__, message, 94, GRIB1_LENGTH_ODD, GRIB1_SECTION_PDS, PDS);
     message[PDS + 12] = 13; /* month */
-    refused(__LINE__, 94, GRIB1_LENGTH_ODD, GRIB1_SECTION_PDS, PDS);
+    refused(__LINE__, message, 94, GRIB1_LENGTH_ODD, GRIB1_SECTION_PDS, PDS);
     message[93] = 0;
-    refused(__LINE__, 94, GRIB1_TOTAL, 0, 0);
+    refused(__LINE__, message, 94, GRIB1_TOTAL, 0, 0);
 
     memcpy(message, specimen, 94);
     message[PDS + 6] = 64; /* a BMS and no GDS: the GDS's octets are taken for it, and the BMS's for the BDS */
-    refused(__LINE__, 94, GRIB1_LENGTH_BOUNDS, GRIB1_SECTION_BDS, BMS);
+    refused(__LINE__, message, 94, GRIB1_LENGTH_BOUNDS, GRIB1_SECTION_BDS, BMS);
     message[PDS + 6] = 0; /* the GDS's octets are taken for the BDS */
-    refused(__LINE__, 94, GRIB1_LEFT_OVER, GRIB1_SECTION_END, BMS);
+    refused(__LINE__, message, 94, GRIB1_LEFT_OVER, GRIB1_SECTION_END, BMS);
 }
 
 /* the specimen with another octet, which is refused otherwise: neither a section nor a place is told */
@@ -161,7 +130,7 @@ static void other(int line, uint32_t place, uint8_t octet, uint32_t reply)
 {
     memcpy(message, specimen, 94);
     message[place - 1] = octet;
-    refused(line, 94, reply, 0, 0);
+    refused(line, message, 94, reply, 0, 0);
 }
 
 static void others(void)
@@ -169,7 +138,7 @@ static void others(void)
     Grib1Display d;
 
     memcpy(message, specimen, 94);
-    refused(__LINE__, 7, GRIB1_SIZE, 0, 0);
+    refused(__LINE__, message, 7, GRIB1_SIZE, 0, 0);
     other(__LINE__, 1, 0, GRIB1_NOT_GRIB);
     other(__LINE__, 8, 2, GRIB1_EDITION);
     other(__LINE__, 7, 95, GRIB1_TOTAL);
@@ -189,40 +158,19 @@ static void others(void)
     same(d.step, 0);
 }
 
-/* a PDS that is refused by 5, whatever comes with it */
-static void unwritten(int line, const uint8_t *pds, size_t pds_len)
-{
-    static const uint32_t values[4] = {0, 2, 0, 7};
-    Grib1Header h = grib1_header(specimen, 94, 0, none, 0);
-    Grib1Form form = {.given = 1, .bitmap = h.bitmap, .grid = h.grid, .bits = h.bits};
-    uint8_t written[ROOM];
-    Grib1Written w[3];
-    int k;
-
-    memset(written, 0xAA, sizeof written);
-    w[0] = grib1_length(pds, pds_len, form, 0, none, 0, marks, 4);
-    w[1] = grib1_write(pds, pds_len, form, 0, h.r, 0, none, 0, values, 4, marks, 4, written, ROOM);
-    w[2] = grib1_pack(pds, pds_len, form, 0, none, 0, numbers, 4, marks, 4, 1, written, ROOM);
-    for (k = 0; k < 3; k++) {
-        same_at(line, w[k].reply, GRIB1_LENGTHS);
-        same_at(line, w[k].len, 0);
-    }
-    same_at(line, written[0], 0xAA);
-}
-
 static void writing(void)
 {
     static uint8_t pds[GRIB1_PDS_MOST + 2];
 
-    unwritten(__LINE__, specimen + 8, 27);
-    unwritten(__LINE__, specimen + 8, 26);
-    unwritten(__LINE__, specimen + 8, 30); /* not what its octets say */
+    unwritten(__LINE__, specimen + 8, 27, GRIB1_LENGTHS);
+    unwritten(__LINE__, specimen + 8, 26, GRIB1_LENGTHS);
+    unwritten(__LINE__, specimen + 8, 30, GRIB1_LENGTHS); /* not what its octets say */
     memcpy(pds, specimen + 8, 28);
     pds[2] = 29;
-    unwritten(__LINE__, pds, 29);
+    unwritten(__LINE__, pds, 29, GRIB1_LENGTHS);
     pds[1] = 4;
     pds[2] = 2;
-    unwritten(__LINE__, pds, sizeof pds);
+    unwritten(__LINE__, pds, sizeof pds, GRIB1_LENGTHS);
 }
 
 int main(void)

@@ -3,6 +3,7 @@ pub mod Specimen
 pub mod Marked
 pub mod Replies
 pub mod Stops
+pub mod Years
 pub mod Absent
 pub mod Octants
 pub mod Misreadings

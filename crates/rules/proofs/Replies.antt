@@ -96,7 +96,7 @@ displaying = refl
 abbrev with-form : Form → Parts
 with-form f = record { pds = parts .pds; form = f; scale = parts .scale; lent = nothing; values = parts .values; marks = parts .marks }
 
-abbrev with-pds : List ℕ → Parts
+abbrev pub with-pds : List ℕ → Parts
 with-pds p = record { pds = p; form = form; scale = parts .scale; lent = nothing; values = parts .values; marks = parts .marks }
 
 -- rows that run north, from a higher latitude to a lower
@@ -197,7 +197,15 @@ large : map counts (flat 128 (wide 256 256) ∷ flat 128 (wide 257 256) ∷ flat
 unfolding computes
 large = refl
 
--- 29 February: century 20 year 0 is 1900, century 21 year 0 is 2000, century 20 year 96 is 1996; 31 April; century 17
-days : map anyOf (momentFaults 20 0 2 29 0 0 ∷ momentFaults 21 0 2 29 0 0 ∷ momentFaults 20 96 2 29 0 0 ∷ momentFaults 20 98 4 31 0 0 ∷ momentFaults 17 98 1 1 0 0 ∷ []) ≡ true ∷ false ∷ false ∷ true ∷ true ∷ []
+-- 29 February: century 19 year 100 is 1900, century 20 year 100 is 2000, century 20 year 96 is 1996; 31 April; century
+-- 17
+days : map anyOf
+    (momentFaults 19 100 2 29 0 0
+    ∷ momentFaults 20 100 2 29 0 0
+    ∷ momentFaults 20 96 2 29 0 0
+    ∷ momentFaults 20 98 4 31 0 0
+    ∷ momentFaults 17 98 1 1 0 0
+    ∷ [])
+    ≡ true ∷ false ∷ false ∷ true ∷ true ∷ []
 unfolding computes
 days = refl

@@ -78,7 +78,7 @@ messageTable s lent =
     ∷ row 4 (anyOf (totalFaults s))
     -- R-2: "5 becomes 20 to 23 in that order, section by section from the front, where 5 stood"
     ∷ walkOf s
-    -- "time out of its ranges"
+    -- "time out of its ranges"; R-3: "6, with the amended range"
     ++ (row 6 (anyOf (timeFaults s pdsStart))
     -- "no GDS, octet 7 not in the catalogue"
     ∷ row 7 (gridMissing (gridOf s))

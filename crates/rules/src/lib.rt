@@ -1,4 +1,4 @@
-// The records that every part of the codec shares, and, in specs/, what document 01 means, as R-1 and R-2 of document
+// The records that every part of the codec shares, and, in specs/, what document 01 means, as R-1 to R-3 of document
 // 02 amend it. All records go by value; a refused answer has zero in every other field.
 
 pub mod bounds;
@@ -31,7 +31,7 @@ pub struct Places {
     pub bds: Part,
 }
 
-// The reference time of a field.
+// The reference time of a field, with the whole year: 1701 to 9900 where the time is not refused.
 pub struct Moment {
     pub year: u16,
     pub month: u8,

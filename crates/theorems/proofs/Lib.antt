@@ -40,3 +40,5 @@ pub mod Packs
 pub mod PackReplies
 -- the length told before the values are
 pub mod Foretold
+-- the spelling of a time, and what document 01 took of it
+pub mod Years

@@ -2,6 +2,7 @@
 -- renders.
 pub mod Replies
 pub mod Stops
+pub mod Years
 pub mod Reads
 pub mod Returns
 pub mod Checks

@@ -27,7 +27,8 @@ use Rattle.theorems.specs.Replies.{Among}
 abbrev pub stops : List ℕ
 stops = 20 ∷ 21 ∷ 22 ∷ 23 ∷ []
 
--- the reader's table as document 01 has it, and R-1 amends its 8 and 9, with one row for all section lengths
+-- the reader's table as document 01 has it, and R-1 amends its 8 and 9 and R-3 its 6, with one row for all section
+-- lengths
 unfoldable pub formerTable : List ℕ → Lent → List Row
 formerTable s lent =
     row 1 (sizeBad s)

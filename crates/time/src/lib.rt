@@ -42,12 +42,12 @@ fn days_in(y: u16, m: u8) -> u8
     pick(m == 2, pick(is_leap(y), 29, 28), pick(short, 30, 31))
 }
 
-// Refusal 6 of the six numbers.
+// Refusal 6 of the six numbers. The year of century is 1 to 100: century 20 ends with 2000.
 fn moment_bad(century: u8, year: u8, month: u8, day: u8, hour: u8, minute: u8) -> bool
     ensures { λ r. ⌜ r ≡ anyOf (momentFaults century year month day hour minute) ⌝ }
 {
     ((century < 18) | (99 < century))
-        | (99 < year)
+        | ((year < 1) | (100 < year))
         | ((month < 1) | (12 < month))
         | ((day < 1) | (days_in(year_of(century, year), month) < day))
         | (23 < hour)

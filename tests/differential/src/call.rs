@@ -1,6 +1,7 @@
 //! One call of the codec: what is sent to the driver, and what must come back.
 
 use second_reading as rules;
+use second_reading::cases::pds_in;
 use second_reading::grid::{from_catalogue, points};
 use second_reading::{BitmapKind, DataNumber, Form, Grid, Header, Lent, Part, Parts, Reply, Rows, Source};
 
@@ -26,6 +27,8 @@ pub struct Call {
     pub expected: Vec<u8>,
     /// The reply expected, where the function gives one; the writer's and the packer's without section and place.
     pub reply: Option<Reply>,
+    /// The PDS whose time a function judges that gives a reply; no octets of another function.
+    pub pds: Vec<u8>,
 }
 
 #[derive(Default)]
@@ -149,6 +152,7 @@ pub fn header(message: &[u8], lent: &Lent) -> (Header, Call) {
         asked: asked(HEADER, message, lent).0,
         expected: Octets::default().header(&h).kept(),
         reply: Some(h.told()),
+        pds: pds_in(message).to_vec(),
     };
     (h, call)
 }
@@ -161,6 +165,7 @@ pub fn read(message: &[u8], lent: &Lent, values: &[u32], marks: &[u8]) -> Call {
         asked: std::mem::take(&mut asked(READ, message, lent).list_of_words(values).list(marks).0),
         expected: Octets::default().header(&h).words(&v).octets(&m).kept(),
         reply: Some(h.told()),
+        pds: pds_in(message).to_vec(),
     }
 }
 
@@ -171,6 +176,7 @@ pub fn section(message: &[u8], lent: &Lent, k: u32) -> Call {
         asked: std::mem::take(&mut asked(SECTION, message, lent).word(k).0),
         expected: Octets::default().part(false, part).kept(),
         reply: None,
+        pds: Vec::new(),
     }
 }
 
@@ -181,6 +187,7 @@ pub fn bitmap(message: &[u8], lent: &Lent) -> Call {
         asked: asked(BITMAP, message, lent).0,
         expected: Octets::default().part(stored, part).kept(),
         reply: None,
+        pds: Vec::new(),
     }
 }
 
@@ -195,6 +202,7 @@ pub fn display(message: &[u8], lent: &Lent) -> Call {
             .octets(&step.to_le_bytes())
             .kept(),
         reply: Some(reply),
+        pds: pds_in(message).to_vec(),
     }
 }
 
@@ -209,6 +217,7 @@ pub fn data_number(message: &[u8], lent: &Lent, point: u32) -> Call {
         asked: std::mem::take(&mut asked(DATA_NUMBER, message, lent).word(point).0),
         expected: Octets::default().words(&[kind, number]).kept(),
         reply: None,
+        pds: Vec::new(),
     }
 }
 
@@ -234,6 +243,7 @@ impl Chart {
             asked: asked.0,
             expected: Octets::default().words(told).kept(),
             reply: None,
+            pds: Vec::new(),
         }
     }
 
@@ -277,6 +287,7 @@ pub fn write(parts: &Parts, kinds: Kinds, out: &[u8]) -> Call {
         asked: asked.0,
         expected: Octets::default().words(&[reply, len]).octets(&after).kept(),
         reply: Some(Reply::of(reply)),
+        pds: parts.pds.clone(),
     }
 }
 
@@ -294,6 +305,7 @@ pub fn length(pds: &[u8], form: &Form, kinds: Kinds, lent: &Lent, marks: &[u8]) 
         asked: asked.0,
         expected: Octets::default().words(&[reply, len]).kept(),
         reply: Some(Reply::of(reply)),
+        pds: pds.to_vec(),
     }
 }
 
@@ -310,6 +322,7 @@ pub fn check(message: &[u8], lent: &Lent, source: &Source) -> Call {
         asked: asked.0,
         expected: Octets::default().reply(reply).kept(),
         reply: Some(reply),
+        pds: pds_in(message).to_vec(),
     }
 }
 
@@ -332,6 +345,7 @@ pub fn pack(pds: &[u8], form: &Form, kinds: Kinds, lent: &Lent, source: &Source,
         asked: asked.0,
         expected: Octets::default().words(&[reply, len]).octets(&after).kept(),
         reply: Some(Reply::of(reply)),
+        pds: pds.to_vec(),
     };
     after.truncate(len as usize);
     (call, after)

@@ -15,7 +15,7 @@ fn pds(rng: &mut Rng, number: u8, has_grid: bool, has_bitmap: bool, d: i32) -> V
     pds[..3].copy_from_slice(&(length as u32).to_be_bytes()[1..]);
     pds[6] = number;
     pds[7] = (has_grid as u8) << 7 | (has_bitmap as u8) << 6 | rng.octet() & 0x3F;
-    let time = [rng.below(100), 1 + rng.below(12), 1 + rng.below(28), rng.below(24), rng.below(60)];
+    let time = [1 + rng.below(100), 1 + rng.below(12), 1 + rng.below(28), rng.below(24), rng.below(60)];
     for (k, part) in time.into_iter().enumerate() {
         pds[12 + k] = part as u8;
     }

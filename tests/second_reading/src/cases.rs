@@ -201,8 +201,15 @@ fn put_time(pds: &mut [u8], century: u8, time: [u8; 5]) {
 fn sound_time(rng: &mut Rng, pds: &mut [u8]) {
     let any_century = rng.between(18, 99) as u8;
     let century = rng.pick(&[20, 21, any_century, 18, 99]);
-    let any_year = rng.between(0, 99) as u8;
-    let year = rng.pick(&[any_year, any_year, 0, 99]);
+    if rng.chance(2) {
+        // 29 February of a year 100 that has one
+        let century = rng.pick(&[20, 24, 96]);
+        put_time(pds, century, [100, 2, 29, 12, 30]);
+        return;
+    }
+    // "the year of century runs from 1 to 100"
+    let any_year = rng.between(1, 100) as u8;
+    let year = rng.pick(&[any_year, any_year, 1, 99, 100]);
     let month = rng.between(1, 12) as u8;
     let last = days_in(100 * (century as u32 - 1) + year as u32, month as u32) as u8;
     let any_day = rng.between(1, last as i64) as u8;
@@ -636,14 +643,43 @@ fn put_latitudes(gds: &mut [u8]) {
 
 /// A time out of its ranges, or just inside them.
 fn damage_time(rng: &mut Rng, pds: &mut [u8]) {
-    if rng.chance(30) {
+    if rng.chance(50) {
+        // Years of century at the edges of their range, and the full centuries as
+        // document 01 spelled them.
+        let (century, year, month, day) = rng.pick(&[
+            (20, 100, 2, 29),
+            (20, 100, 2, 29),
+            (24, 100, 2, 29),
+            (96, 100, 2, 29),
+            (18, 100, 2, 29),
+            (19, 100, 2, 29),
+            (19, 100, 2, 29),
+            (21, 100, 2, 29),
+            (22, 100, 2, 29),
+            (99, 100, 2, 29),
+            (21, 0, 1, 1),
+            (21, 0, 2, 29),
+            (25, 0, 2, 29),
+            (22, 0, 1, 1),
+            (20, 0, 12, 31),
+            (18, 0, 2, 28),
+            (99, 0, 6, 15),
+            (20, 101, 1, 1),
+            (20, 101, 2, 28),
+            (18, 101, 1, 1),
+            (21, 101, 1, 1),
+            (99, 101, 12, 31),
+        ]);
+        put_time(pds, century, [year, month, day, 12, 30]);
+        return;
+    }
+    if rng.chance(40) {
         // Days that depend on the month and the year.
         let (century, year, month, day) = rng.pick(&[
-            (20, 0, 2, 29),
-            (21, 0, 2, 29),
-            (22, 0, 2, 29),
-            (25, 0, 2, 29),
-            (18, 0, 2, 29),
+            (17, 100, 2, 28),
+            (100, 0, 1, 1),
+            (20, 104, 2, 29),
+            (20, 100, 12, 31),
             (20, 96, 2, 29),
             (20, 98, 2, 29),
             (20, 96, 2, 30),
@@ -666,8 +702,11 @@ fn damage_time(rng: &mut Rng, pds: &mut [u8]) {
         (25, 99),
         (25, 100),
         (25, 255),
+        (13, 0),
+        (13, 1),
         (13, 99),
         (13, 100),
+        (13, 101),
         (13, 255),
         (14, 0),
         (14, 13),
@@ -1825,4 +1864,39 @@ impl std::fmt::Display for Histogram {
         }
         Ok(())
     }
+}
+
+/// What R-3 moved, as a case can meet it.
+pub const YEARS: [&str; 4] = [
+    "29 February of a year 100 taken",
+    "29 February of a year 100 refused",
+    "year 0 refused",
+    "year 101 refused",
+];
+
+/// Which of these a PDS is that gets this reply: 0, or 6 for nothing else in its time.
+pub fn year_met(pds: &[u8], reply: u32) -> Option<usize> {
+    let &[year, month, day, hour, minute] = pds.get(12..17)? else {
+        return None;
+    };
+    let century = *pds.get(24)?;
+    if !(18..=99).contains(&century) || hour > 23 || minute > 59 {
+        return None;
+    }
+    let leap_day = (month, day) == (2, 29);
+    let last = days_in(100 * (century as u32 - 1) + year as u32, month as u32);
+    let some_day = day >= 1 && day as u32 <= last;
+    match (year, reply) {
+        (100, 0) if leap_day => Some(0),
+        (100, 6) if leap_day => Some(1),
+        (0, 6) if some_day => Some(2),
+        (101, 6) if some_day => Some(3),
+        _ => None,
+    }
+}
+
+/// The PDS's first 28 octets in a message that gets 0 or 6; none where a message has
+/// no room for them.
+pub fn pds_in(message: &[u8]) -> &[u8] {
+    message.get(8..36).unwrap_or(&[])
 }

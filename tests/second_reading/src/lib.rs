@@ -3,7 +3,7 @@
 //! This package computes, slowly and literally, what document 01 ("Definition
 //! of the build and its rules") says a GRIB Edition 1 codec must answer, and
 //! what the requests of document 02 that have landed add to it or change in it
-//! (R-1 and R-2). It was written from these documents alone, with the list of
+//! (R-1 to R-3). It was written from these documents alone, with the list of
 //! open points deciding where they leave room for two readings. It shares nothing with the codec it
 //! is used to test: no code, no constants, no tricks. Wherever a person with
 //! paper and pencil would write out bits, the code here writes out bits.

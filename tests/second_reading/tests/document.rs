@@ -1,5 +1,6 @@
 //! Every example that document 01 gives, and the cases at each edge; and what R-1
-//! of document 02 says of thinned octants, and R-2 of where the lengths went wrong.
+//! of document 02 says of thinned octants, R-2 of where the lengths went wrong, and
+//! R-3 of the year 100.
 
 use second_reading::*;
 
@@ -412,6 +413,55 @@ fn the_writer_and_the_packer_keep_5() {
         );
         assert_eq!(packed, (5, 0), "{length}");
         assert_eq!(out, vec![0xAA; 2_000]);
+    }
+}
+
+/// R-3: "Fields for the year 2000 come with century 20 and year of century 100, and we
+/// refuse them." Every function that judges the time, on the specimen with its time
+/// put anew.
+#[test]
+fn the_year_2000_comes_with_century_20() {
+    for (reply, century, time) in [
+        (0, 20, [100, 2, 29, 6, 0]),
+        (6, 19, [100, 2, 29, 6, 0]),
+        (6, 20, [0, 3, 10, 6, 0]),
+        (6, 20, [101, 3, 10, 6, 0]),
+    ] {
+        let mut message = specimen();
+        message[20..25].copy_from_slice(&time);
+        message[32] = century;
+        let pds = message[8..36].to_vec();
+        let Source { numbers, marks, d } = specimen_source();
+        let lent = none();
+
+        let told = header(&message, &lent);
+        assert_eq!(told.told(), Reply::of(reply));
+        let checked = check(&message, &lent, &numbers, &marks, d);
+        assert_eq!(checked, Reply::of(reply));
+        assert_eq!(display(&message, &lent).0, Reply::of(reply));
+        let parts = Parts {
+            pds: pds.clone(),
+            ..specimen_parts()
+        };
+        let (mut written, mut packed) = (vec![0; 94], vec![0; 94]);
+        let (by_write, length) = write(&parts, &mut written);
+        let source = specimen_source();
+        let by_pack = pack(&pds, &specimen_form(), &lent, &source, &mut packed);
+        assert_eq!((by_write, by_pack), (reply, (reply, length)));
+        if reply == 0 {
+            let Time {
+                year, month, day, ..
+            } = told.time;
+            assert_eq!((year, month, day), (2000, 2, 29));
+            assert_eq!(section(&message, &lent, 1).len, 28);
+            assert_eq!((&written, &packed), (&message, &message));
+            assert_eq!(listing(&message), listing(&specimen()));
+        } else {
+            assert_eq!(told.time, Time::default());
+            assert_eq!(section(&message, &lent, 1), Part::default());
+            assert_eq!((written, packed), (vec![0; 94], vec![0; 94]));
+            assert_eq!(listing(&message), "refused 6\n");
+        }
     }
 }
 

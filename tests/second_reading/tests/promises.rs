@@ -237,6 +237,147 @@ fn refused_by_20_to_23_where_it_was_5() {
     assert!(split > 2_000, "{split}");
 }
 
+/// 6 of document 01, before R-3: "century 18 to 99, year of century 0 to 99, month 1
+/// to 12, day by the Gregorian calendar, hour 0 to 23, minute 0 to 59".
+fn was_6(pds: &[u8]) -> bool {
+    let [year, month, day, hour, minute] = [12, 13, 14, 15, 16].map(|k| pds[k]);
+    let century = pds[24];
+    if !(18..=99).contains(&century) || year > 99 || !(1..=12).contains(&month) {
+        return true;
+    }
+    let full = 100 * (century as u32 - 1) + year as u32;
+    let leap = full % 4 == 0 && (full % 100 != 0 || full % 400 == 0);
+    let last = match month {
+        2 => 28 + u8::from(leap),
+        4 | 6 | 9 | 11 => 30,
+        _ => 31,
+    };
+    !(1..=last).contains(&day) || hour > 23 || minute > 59
+}
+
+/// A PDS with century, year of century, month, day, hour and minute put anew.
+fn at(pds: &[u8], century: u8, time: &[u8]) -> Vec<u8> {
+    let mut pds = pds.to_vec();
+    pds[12..12 + time.len()].copy_from_slice(time);
+    pds[24] = century;
+    pds
+}
+
+/// Holds one case to R-3. `reply` is what the case gets with a PDS in the place of
+/// its own, and `before` are the replies that come before 6.
+fn amended(pds: &[u8], before: &[u32], reply: impl Fn(&[u8]) -> u32) {
+    // what is left of the table where the time is in its ranges
+    let rest = reply(&at(pds, 20, &[98, 3, 10, 6, 0]));
+    let by_01 = |pds: &[u8]| match was_6(pds) && !before.contains(&rest) {
+        true => 6,
+        false => rest,
+    };
+    let own = (pds[24], pds[12]);
+    for (century, year) in [own, (own.0, 0), (own.0, 100), (20, 100), (own.0, 101)] {
+        for day in [&pds[13..15], &[2, 29]] {
+            let pds = at(pds, century, &[year, day[0], day[1]]);
+            let expected = match (century, year) {
+                // "0 refused"
+                (_, 0) if before.contains(&rest) => rest,
+                (_, 0) => 6,
+                // "100 is to be taken": the year that document 01 spelled thus
+                (18..=98, 100) => by_01(&at(&pds, century + 1, &[0])),
+                // 9900 had no spelling; like 9500 it is no leap year
+                (99, 100) => by_01(&at(&pds, 96, &[0])),
+                _ => by_01(&pds),
+            };
+            assert_eq!(reply(&pds), expected, "{century} {year} {day:?}");
+        }
+    }
+}
+
+/// R-3 moves the year of century's range and nothing else: what is read, checked,
+/// written or packed gets the reply that document 01's table gave it, but that 0 is
+/// never taken, and that 100 gets what the next century's 0 got.
+#[test]
+fn refused_by_6_as_it_was_but_for_0_and_100() {
+    let lengths = [1, 2, 3, 4, 20, 21, 22, 23];
+    let mut held = [0; 4];
+    let put = |message: &[u8], pds: &[u8]| {
+        let mut message = message.to_vec();
+        message[8..8 + pds.len()].copy_from_slice(pds);
+        message
+    };
+    for (seed, size) in SEEDS {
+        for k in 0..COUNT / 3 {
+            // a message that is refused before 6 need not have a PDS
+            let case = read_case(seed, k, size);
+            let reply = |message: &[u8]| {
+                let (mut values, mut marks) = (case.values.clone(), case.marks.clone());
+                let Lent { number, octets } = &case.lent;
+                read(message, *number, octets, &mut values, &mut marks).reply
+            };
+            if !lengths.contains(&reply(&case.message)) {
+                let pds = &case.message[8..36];
+                amended(pds, &lengths, |pds| reply(&put(&case.message, pds)));
+                held[0] += 1;
+            }
+            let case = check_case(seed, k, size);
+            let reply = |message: &[u8]| {
+                let Source { numbers, marks, d } = &case.source;
+                check(message, &case.lent, numbers, marks, *d).number
+            };
+            if !lengths.contains(&reply(&case.message)) {
+                let pds = &case.message[8..36];
+                amended(pds, &lengths, |pds| reply(&put(&case.message, pds)));
+                held[1] += 1;
+            }
+            let case = write_case(seed, k, size);
+            if case.parts.pds.len() >= 28 {
+                amended(&case.parts.pds, &[5], |pds| {
+                    let mut parts = case.parts.clone();
+                    parts.pds = pds.to_vec();
+                    write(&parts, &mut case.out.clone()).0
+                });
+                held[2] += 1;
+            }
+            let case = pack_case(seed, k, size);
+            if case.pds.len() >= 28 {
+                amended(&case.pds, &[5, 18, 15, 11, 19], |pds| {
+                    pack(
+                        pds,
+                        &case.form,
+                        &case.lent,
+                        &case.source,
+                        &mut case.out.clone(),
+                    )
+                    .0
+                });
+                held[3] += 1;
+            }
+        }
+    }
+    assert!(held.iter().all(|&cases| cases > 1_000), "{held:?}");
+}
+
+/// The same of the time alone: every century and year of century, with each month and
+/// the days at the ends of a month.
+#[test]
+fn every_time_as_it_was_but_for_0_and_100() {
+    for century in 0..=255 {
+        for year in 0..=255 {
+            for month in 0..=13 {
+                for day in [0, 1, 28, 29, 30, 31, 32] {
+                    let pds = at(&[0; 28], century, &[year, month, day, 23, 59]);
+                    let expected = match (century, year) {
+                        (_, 0) => true,
+                        (18..=98, 100) => was_6(&at(&pds, century + 1, &[0])),
+                        (99, 100) => was_6(&at(&pds, 96, &[0])),
+                        _ => was_6(&pds),
+                    };
+                    let told = time::time_out_of_range(&pds);
+                    assert_eq!(told, expected, "{century} {year} {month} {day}");
+                }
+            }
+        }
+    }
+}
+
 /// Where a length goes wrong in the cases: a reply and the section that it names.
 const STOPS: [(u32, u32); 13] = [
     (20, 1),
@@ -278,5 +419,50 @@ fn every_section_is_named() {
             assert!(times >= 8, "{stop:?} {times} times");
         }
         assert!(cut[1..].iter().all(|&times| times >= 2), "{cut:?}");
+    }
+}
+
+/// What R-3 moved is met by every kind of case, and often enough by the number of
+/// cases that the definitions are held to.
+#[test]
+fn every_year_that_moved_is_met() {
+    for size in [Size::Small, Size::Short, Size::Whole] {
+        let mut met = [[0; YEARS.len()]; 4];
+        let mut count = |kind: usize, pds: &[u8], reply: u32| {
+            if let Some(year) = year_met(pds, reply) {
+                met[kind][year] += 1;
+            }
+        };
+        for seed in 1..=4 {
+            for k in 0..1_000 {
+                let case = read_case(seed, k, size);
+                let reply = header(&case.message, &case.lent).reply;
+                count(0, pds_in(&case.message), reply);
+                let case = write_case(seed, k, size);
+                count(
+                    1,
+                    &case.parts.pds,
+                    write(&case.parts, &mut case.out.clone()).0,
+                );
+                let case = check_case(seed, k, size);
+                let Source { numbers, marks, d } = &case.source;
+                let reply = check(&case.message, &case.lent, numbers, marks, *d).number;
+                count(2, pds_in(&case.message), reply);
+                let PackCase {
+                    pds,
+                    form,
+                    lent,
+                    source,
+                    mut out,
+                } = pack_case(seed, k, size);
+                count(3, &pds, pack(&pds, &form, &lent, &source, &mut out).0);
+            }
+        }
+        for (kind, times) in ["read", "write", "check", "pack"].iter().zip(met) {
+            assert!(
+                times.iter().all(|&times| times >= 8),
+                "{kind}: {YEARS:?} {times:?}"
+            );
+        }
     }
 }

@@ -122,6 +122,30 @@ fn with(octet: usize, value: u8) -> Vec<u8> {
     octets
 }
 
+/// The specimen of document 01.
+fn specimen() -> Vec<u8> {
+    let points = [Some(0), Some(2), None, Some(7)];
+    let corners = Grid {
+        la1: 50_000,
+        la2: 51_000,
+        lo2: -1_000,
+        dj: 1_000,
+        ..grid(2, 2, 64)
+    };
+    let mut parts = parts(1, corners, 0, 0x439C_4000, 3, &points);
+    parts.pds[8..12].copy_from_slice(&[11, 100, 1, 244]);
+    parts.pds[17] = 1;
+    message(&parts)
+}
+
+/// A message with another century, year of century, month, day, hour and minute in
+/// its PDS, which starts at octet `first`.
+fn dated(mut octets: Vec<u8>, first: usize, century: u8, time: [u8; 5]) -> Vec<u8> {
+    octets[first + 11..first + 16].copy_from_slice(&time);
+    octets[first + 23] = century;
+    octets
+}
+
 /// A message with so many octets before its end section.
 fn left_over(mut octets: Vec<u8>, count: usize) -> Vec<u8> {
     let end = octets.len() - 4;
@@ -199,6 +223,12 @@ fn cases() -> Vec<(String, Vec<u8>)> {
     case("refused_23_two", left_over(small(), 2));
     case("refused_23_many", left_over(small(), 150));
     case("refused_6", with(pds + 13, 13));
+    // 100 is taken and 0 refused; 29 February of 2000, and of 1900
+    let at = |octets: Vec<u8>, century: u8, time: [u8; 5]| dated(octets, pds, century, time);
+    case("year_100", at(specimen(), 20, [100, 2, 29, 6, 0]));
+    case("refused_6_year_0", at(specimen(), 20, [0, 3, 10, 6, 0]));
+    case("refused_6_year_101", at(specimen(), 20, [101, 3, 10, 6, 0]));
+    case("refused_6_february", at(specimen(), 19, [100, 2, 29, 6, 0]));
     case("refused_7", {
         let mut octets = catalogued();
         octets[pds + 5] = 28;
@@ -292,6 +322,12 @@ fn cases() -> Vec<(String, Vec<u8>)> {
         listed.pds[7] = 64;
         message(&listed)
     });
+    let of_38 = message(&octant(38, None));
+    case(
+        "octant_38_year_100",
+        at(of_38.clone(), 20, [100, 2, 29, 6, 0]),
+    );
+    case("refused_6_octant", at(of_38, 20, [0, 2, 28, 6, 0]));
     let with = |octet: usize, value: u8| {
         let mut octets = message(&octant(37, None));
         octets[octet - 1] = value;

@@ -2,7 +2,8 @@
 //! for a length that went wrong: 20, by the data section's, which starts at 77.
 
 use super::{specimen_field, Table};
-use crate::vectors::read::with_e;
+use crate::vectors::messages::set;
+use crate::vectors::read::{with_e, with_lengths};
 use crate::Source;
 
 /// The specimen with those of these faults that are a message's; 16 is E = -1.
@@ -14,6 +15,12 @@ fn message(faults: &[u32]) -> Vec<u8> {
         .collect();
     let e = if faults.contains(&16) { "8001" } else { "0000" };
     with_e(&own, e)
+}
+
+/// The specimen with year of century 0; of these faults 16 alone is a message's.
+fn year_0(faults: &[u32]) -> Vec<u8> {
+    let e = if faults.contains(&16) { "8001" } else { "0000" };
+    with_lengths(&[], e, |sections| set(&mut sections.pds, 13, &[0]))
 }
 
 /// Its field, with those that are the source's.
@@ -65,5 +72,21 @@ pub fn add(table: &mut Table) {
     for (reply, faults) in [(18, &[18, 15, 16, 17][..]), (15, &[15, 16, 17])] {
         let rule = format!("the first that applies: {reply} before all after it");
         add(reply, format!("check-all-from-{reply}"), rule, faults);
+    }
+    // 6 by year of century 0, which R-3 refuses, comes before them all
+    for (name, rule, others) in [
+        ("and-18", "18", &[18][..]),
+        ("and-15", "15", &[15]),
+        ("and-16", "16", &[16]),
+        ("and-17", "17", &[17]),
+        ("and-all", "18, 15, 16, 17", &[18, 15, 16, 17]),
+    ] {
+        table.add(
+            6,
+            &format!("check-year-0-{name}"),
+            &format!("the first that applies: 6 by year 0 before {rule}"),
+            year_0(others),
+            source(others),
+        );
     }
 }

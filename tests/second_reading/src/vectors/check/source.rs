@@ -51,6 +51,37 @@ fn messages(table: &mut Table) {
             _ => table.add(number, &name, rule, message, right()),
         };
     }
+    // 29 February of a year 100, leap and not; 0 and 101
+    let at = |century: u8, time: [u8; 5]| {
+        let sections = specimen().pds(13, &time).pds(25, &[century]);
+        sections.message()
+    };
+    let leap_day = || at(20, [100, 2, 29, 6, 0]);
+    let rule = "R-3: 100 is to be taken, and 2000 is a leap year";
+    table.add(0, "check-2000-2-29", rule, leap_day(), right());
+    let rule = "15: D of message and source differ, in the year 2000";
+    let other_d = Source { d: 2, ..right() };
+    table.add(15, "check-2000-2-29-d", rule, leap_day(), other_d);
+    let rule = "17: a present point is out by more than half a step, in the year 2000";
+    let out = field(1, "2500 2502 - 2508");
+    table.add(17, "check-2000-2-29-out", rule, leap_day(), out);
+    for (name, rule, century, time) in [
+        (
+            "check-1900-2-29",
+            "6: 1900 is no leap year",
+            19,
+            [100, 2, 29, 6, 0],
+        ),
+        ("check-year-0", "6, R-3: 0 refused", 20, [0, 3, 10, 6, 0]),
+        (
+            "check-year-101",
+            "6, R-3: the year of century runs from 1 to 100",
+            20,
+            [101, 3, 10, 6, 0],
+        ),
+    ] {
+        table.add(6, name, rule, at(century, time), right());
+    }
     let rule = "10: no such stored bitmap";
     for (reply, name, number, octets) in [
         (0, "check-stored", 5, "D0"),

@@ -98,6 +98,29 @@ pub fn add(table: &mut Table) {
             );
         }
     }
+    // 6 by year of century 0, which R-3 refuses
+    for (reply, other) in [
+        (5, 5),
+        (18, 18),
+        (15, 15),
+        (11, 11),
+        (19, 19),
+        (6, 7),
+        (6, 9),
+        (6, 10),
+        (6, 13),
+        (6, 14),
+    ] {
+        let mut given = with(&[other]);
+        set(&mut given.pds, 13, &[0]);
+        let rule = match reply {
+            6 => format!("the first that applies: 6 by year 0 before {other}"),
+            _ => format!("the first that applies: {reply} before 6 by year 0"),
+        };
+        table
+            .add(reply, &format!("pack-year-0-and-{other}"), &rule, given)
+            .room(room(&[other]));
+    }
     // 11 by N goes before 19, which N = 0 alone can have
     let mut given = with(&[6, 13]);
     given.form.bits = 25;

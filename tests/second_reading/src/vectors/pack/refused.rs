@@ -2,7 +2,7 @@
 
 use super::{base, changed, line, packing, Given, Table};
 use crate::vectors::check::{field, specimen_field};
-use crate::vectors::edges::{times, COUNTS, NOT_LISTED};
+use crate::vectors::edges::{times, COUNTS, NOT_LISTED, SPECIMEN_OF_2000, YEAR_100};
 use crate::vectors::given::{
     flat, grid, lend, listed, marks, pds_of, plain, row, specimen, stored, LISTED,
 };
@@ -272,6 +272,10 @@ fn time(table: &mut Table) {
         });
         table.add(time.reply, &format!("pack-{}", time.name), time.rule, given);
     }
+    let leap_day = changed(|given| set(&mut given.pds, 13, &[100, 2, 29, 6, 0]));
+    table
+        .add(0, "pack-6-2000-2-29-octets", YEAR_100, leap_day)
+        .message(SPECIMEN_OF_2000);
 }
 
 fn grids(table: &mut Table) {

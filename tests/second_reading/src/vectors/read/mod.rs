@@ -16,7 +16,8 @@
 //! * `misread`  the misreadings that document 01 names;
 //! * `octants`  thinned octants, with and without their GDS;
 //! * `lengths`  R-2: where the lengths went wrong, in each section and each way;
-//! * `order`    R-2: two lengths that went wrong, and 20 to 23 beside other faults.
+//! * `order`    R-2: two lengths that went wrong, and 20 to 23 beside other faults;
+//! * `years`    R-3: 100 and 0 on an octant and elsewhere, and 0 beside other faults.
 
 mod data;
 mod fields;
@@ -27,6 +28,7 @@ mod octants;
 mod order;
 mod pairs;
 mod taken;
+mod years;
 
 pub(super) use pairs::{with, with_e, with_lengths};
 
@@ -132,6 +134,7 @@ pub fn table() -> Table {
     octants::add(&mut table);
     lengths::add(&mut table);
     order::add(&mut table);
+    years::add(&mut table);
     table
 }
 

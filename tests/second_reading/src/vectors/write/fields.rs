@@ -1,7 +1,7 @@
 //! Rules 5, 6, 7 and 9: PDS, time, catalogue, grid.
 
 use super::Table;
-use crate::vectors::edges::{times, COUNTS, NOT_LISTED};
+use crate::vectors::edges::{times, COUNTS, NOT_LISTED, SPECIMEN_OF_2000, YEAR_100};
 use crate::vectors::given::{flat, given, grid, listed, pds_of, plain, with_pds, LISTED};
 use crate::vectors::messages::{hex, set};
 use crate::{Grid, Parts};
@@ -86,6 +86,10 @@ fn time(table: &mut Table) {
         });
         table.add(time.reply, &time.name, time.rule, parts);
     }
+    let leap_day = given(|parts| set(&mut parts.pds, 13, &[100, 2, 29, 6, 0]));
+    table
+        .add(0, "6-2000-2-29-octets", YEAR_100, leap_day)
+        .message(SPECIMEN_OF_2000);
 }
 
 fn catalogue(table: &mut Table) {

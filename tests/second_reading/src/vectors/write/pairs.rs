@@ -116,6 +116,18 @@ pub fn add(table: &mut Table) {
             )
             .room(room(faults));
     }
+    // 6 by year of century 0, which R-3 refuses
+    for (reply, other) in [(5, 5), (6, 7), (6, 9), (6, 10), (6, 11), (6, 13), (6, 14)] {
+        let mut parts = with(&[other]);
+        set(&mut parts.pds, 13, &[0]);
+        let rule = match other {
+            5 => "the first that applies: 5 before 6 by year 0".to_string(),
+            _ => format!("the first that applies: 6 by year 0 before {other}"),
+        };
+        table
+            .add(reply, &format!("year-0-and-{other}"), &rule, parts)
+            .room(room(&[other]));
+    }
     // each clause of 11 before 13, and of 10 before 11
     let n_25: fn(&mut Parts) = |parts| parts.form.bits = 25;
     let e_32768: fn(&mut Parts) = |parts| parts.e = 32_768;
