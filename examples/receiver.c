@@ -1,4 +1,5 @@
-/* A receiver's main path: a message in, its chart out, row by row from north, as values of the field. A row of a
+/* A receiver's main path: a message in, its chart out, row by row, as values of the field. Rows go from north, and of a
+ * Lambert or polar stereographic grid from the greatest y: whatever kind of grid it is, it is drawn alike. A row of a
  * thinned octant has its own length.
  *
  *   receiver FILE
@@ -25,6 +26,23 @@ static double ten(int32_t d)
     return power;
 }
 
+/* what kind of grid it is; a latitude/longitude grid goes without saying */
+static const char *kind(Grib1Grid grid)
+{
+    switch (grid.kind) {
+    case GRIB1_MERCATOR:
+        return "Mercator, ";
+    case GRIB1_LAMBERT:
+        return "Lambert conformal, ";
+    case GRIB1_GAUSSIAN:
+        return "Gaussian, ";
+    case GRIB1_POLAR:
+        return "polar stereographic, ";
+    default:
+        return "";
+    }
+}
+
 static int draw(size_t len)
 {
     Grib1Header h = grib1_read(message, len, 0, none, 0, values, GRIB1_POINTS_MOST, marks, GRIB1_POINTS_MOST);
@@ -39,8 +57,8 @@ static int draw(size_t len)
         printf("\n");
         return 1;
     }
-    printf("%04u-%02u-%02u %02u:%02u, ", (unsigned)h.year, (unsigned)h.month, (unsigned)h.day, (unsigned)h.hour,
-        (unsigned)h.minute);
+    printf("%04u-%02u-%02u %02u:%02u, %s", (unsigned)h.year, (unsigned)h.month, (unsigned)h.day, (unsigned)h.hour,
+        (unsigned)h.minute, kind(h.grid));
     if (h.grid.rows == GRIB1_ROWS_EVEN)
         printf("%u by %u, ", (unsigned)h.grid.ni, (unsigned)h.grid.nj);
     else

@@ -31,20 +31,21 @@ extern "C" {
 /* The version of what is declared here. While its first number is 0, a new second number may change a name, a field or
  * a function, and a new third one changes none. */
 #define GRIB1_VERSION_MAJOR 0
-#define GRIB1_VERSION_MINOR 4
-#define GRIB1_VERSION_PATCH 1
-#define GRIB1_VERSION "0.4.1"
+#define GRIB1_VERSION_MINOR 5
+#define GRIB1_VERSION_PATCH 0
+#define GRIB1_VERSION "0.5.0"
 
 /* The rules' bounds, and what to lend. */
 #define GRIB1_MESSAGE_LEAST 8          /* octets of a message */
 #define GRIB1_MESSAGE_MOST 262144
-#define GRIB1_WRITTEN_MOST 205886      /* octets of a message that is written here: out of so many holds any */
+#define GRIB1_WRITTEN_MOST 205896      /* octets of a message that is written here: out of so many holds any */
 #define GRIB1_PDS_LEAST 28             /* octets of a PDS, an even number */
 #define GRIB1_PDS_MOST 1024
 #define GRIB1_SIDE_MOST 65534          /* ni and nj of a rectangle */
 #define GRIB1_POINTS_MOST 65536        /* points of a grid: values and marks of so many hold any field */
 #define GRIB1_LATITUDE_MOST 90000      /* thousandths of a degree, in magnitude */
 #define GRIB1_LONGITUDE_MOST 360000
+#define GRIB1_DISTANCE_MOST 16777215   /* dx and dy, metres */
 #define GRIB1_BITS_MOST 24             /* N, bits of a value */
 #define GRIB1_EXPONENT_MOST 32767      /* E of a message, in magnitude */
 #define GRIB1_SHOWN_LEAST (-1022)      /* E of grib1_display */
@@ -52,7 +53,8 @@ extern "C" {
 #define GRIB1_STEP_MOST 24             /* E of grib1_check and grib1_pack, from 0 */
 #define GRIB1_SOURCE_MOST 8388607      /* a source number, in magnitude */
 
-/* The scanning flags of a grid: bits 1, 2 and 3 of GDS octet 28. The others are carried and mean nothing here. */
+/* The scanning flags of a grid: bits 1, 2 and 3 of GDS octet 28. The others are carried and mean nothing here. On
+ * Lambert and polar grids west is towards the least x, and north towards the greatest y. */
 #define GRIB1_SCAN_WEST 128            /* columns run west, else east */
 #define GRIB1_SCAN_NORTH 64            /* rows run north, else south */
 #define GRIB1_SCAN_BY_COLUMN 32        /* points of one column are consecutive, else of one row */
@@ -63,19 +65,19 @@ extern "C" {
 /* The most octets of stack that a call takes, its arguments and its return address among them: measured over many calls
  * (tests/stack) and rounded up. Those that write, pack or check hold 256 values at a time. A loader that binds late may
  * take more at a program's first call. */
-#define GRIB1_STACK_HEADER 1792
-#define GRIB1_STACK_READ 2048
-#define GRIB1_STACK_SECTION 1792
-#define GRIB1_STACK_BITMAP 1536
-#define GRIB1_STACK_DISPLAY 1792
+#define GRIB1_STACK_HEADER 2304
+#define GRIB1_STACK_READ 2304
+#define GRIB1_STACK_SECTION 2048
+#define GRIB1_STACK_BITMAP 2048
+#define GRIB1_STACK_DISPLAY 2048
 #define GRIB1_STACK_PLACE 256
 #define GRIB1_STACK_POINT 256
 #define GRIB1_STACK_ROW 256
-#define GRIB1_STACK_DATA_NUMBER 1792
-#define GRIB1_STACK_LENGTH 1536
-#define GRIB1_STACK_WRITE 3584
-#define GRIB1_STACK_CHECK 4096
-#define GRIB1_STACK_PACK 4864
+#define GRIB1_STACK_DATA_NUMBER 2048
+#define GRIB1_STACK_LENGTH 1792
+#define GRIB1_STACK_WRITE 3840
+#define GRIB1_STACK_CHECK 4352
+#define GRIB1_STACK_PACK 5120
 
 /* What a reply says. The first that applies is given, in number order but for 20 to 23, which reading gives after 4 and
  * before 6. They go section by section from the front: PDS, GDS and BMS where PDS octet 8 announces them, BDS. In a
@@ -94,9 +96,12 @@ enum grib1_reply {
                                   (13), month 1 to 12 (14), a day of that month (15), hour 0 to 23 (16), minute 0 to 59
                                   (17) */
     GRIB1_NO_GRID = 7,         /* no GDS, octet 7 not in the catalogue */
-    GRIB1_GDS = 8,             /* GDS length or octets 4 to 6 not as the rules say */
-    GRIB1_GRID = 9,            /* Ni, Nj, n, a latitude, a longitude or the scan test outside the rules, or a thinned
-                                  grid that is none of the eight octants */
+    GRIB1_GDS = 8,             /* GDS of no accepted type and length. Types 0, 4 and 5 (octet 6) are 32 octets long, 1
+                                  and 3 are 42, with octets 4 and 5 0 and 255; a thinned octant is of type 0 and 178
+                                  octets long, with 0 and 33 */
+    GRIB1_GRID = 9,            /* Ni, Nj, n, a latitude, a longitude or, of types 0, 1 and 4, the scan test outside the
+                                  rules, a Gaussian N that is missing, a thinned grid that is none of the eight octants,
+                                  or (writing) a dx or dy over 16,777,215 or a grid of no kind */
     GRIB1_BITMAP = 10,         /* bitmap rule broken, or no such stored bitmap, or (writing, lists n long) one of its
                                   first n bits isn't the same number as the mark */
     GRIB1_PACKING = 11,        /* BDS flag bit 1, 2 or 4 set, N over 24, or (writing) E outside -32,767 to 32,767 */
@@ -135,9 +140,18 @@ enum grib1_bitmap_kind {
     GRIB1_STORED = 2           /* by the stored bitmap of a number */
 };
 
+/* The kinds of grids: GDS octet 6. */
+enum grib1_grid_kind {
+    GRIB1_LATLON = 0,          /* latitude/longitude: a rectangle or a thinned octant */
+    GRIB1_MERCATOR = 1,
+    GRIB1_LAMBERT = 3,         /* Lambert conformal */
+    GRIB1_GAUSSIAN = 4,        /* latitude/longitude, its rows at Gaussian latitudes */
+    GRIB1_POLAR = 5            /* polar stereographic */
+};
+
 /* How many points each row of a grid has, in message order. */
 enum grib1_rows {
-    GRIB1_ROWS_EVEN = 0,           /* ni in every row: a rectangle */
+    GRIB1_ROWS_EVEN = 0,           /* ni in every row: a rectangle, of any kind */
     GRIB1_ROWS_FROM_EQUATOR = 1,   /* those of a thinned octant from the equator on, 73 to 2: grids 37 to 40 */
     GRIB1_ROWS_FROM_POLE = 2       /* the same from the pole on, 2 to 73: grids 41 to 44 */
 };
@@ -157,30 +171,56 @@ typedef struct {
                                   the section would stand */
 } Grib1Part;
 
-/* A latitude/longitude grid: a rectangle or a thinned octant. Latitudes and longitudes are in thousandths of a degree,
- * north and east positive.
+/* A grid of one of five kinds: latitude/longitude, Mercator, Lambert conformal, Gaussian, polar stereographic. There is
+ * a field for every number that some kind has; beside each stand the kinds that have it, and then its octets of the
+ * GDS. Latitudes and longitudes are in thousandths of a degree, north and east positive.
+ *
+ * In a header a field that the kind lacks is 0. In a form, and to grib1_place, grib1_point and grib1_row, it is not
+ * looked at, but for rows, which every kind but GRIB1_LATLON has as GRIB1_ROWS_EVEN. A kind that has no name, and
+ * another kind than GRIB1_LATLON with other rows, are a grid of no kind: a form of one is refused by 9, and it has no
+ * points, no rows and no places. No header has one.
  *
  * A thinned octant is one of grids 37 to 44: 73 rows and 3,447 points, from 73 in the row at the equator to 2 at the
- * pole. Its ni and di are GRIB1_MISSING, nj is 73, dj 1250, resolution 128, scan GRIB1_SCAN_NORTH; la1 and la2 are 0
- * and 90000 of 37 to 40, in the north, and -90000 and 0 of 41 to 44; lo1 and lo2 are 330000 and 60000 of 37 and 41,
- * 60000 and 150000 of 38 and 42, 150000 and 240000 of 39 and 43, 240000 and 330000 of 40 and 44. A thinned grid that
- * differs from all eight is refused by 9.
+ * pole. Its kind is GRIB1_LATLON, ni and di are GRIB1_MISSING, nj is 73, dj 1250, resolution 128, scan
+ * GRIB1_SCAN_NORTH; la1 and la2 are 0 and 90000 of 37 to 40, in the north, and -90000 and 0 of 41 to 44; lo1 and lo2
+ * are 330000 and 60000 of 37 and 41, 60000 and 150000 of 38 and 42, 150000 and 240000 of 39 and 43, 240000 and 330000
+ * of 40 and 44. A thinned grid that differs from all eight is refused by 9. Every other grid is a rectangle.
  *
- * Either kind is drawn by rows 0 to nj - 1 of the chart and in each by positions 0 to grib1_row - 1, which on a
- * rectangle are its columns. */
+ * Any grid is drawn by rows 0 to nj - 1 of the chart and in each by positions 0 to grib1_row - 1, which on a rectangle
+ * are its columns. The chart of a rectangle is one function of ni, nj and scan, whatever its kind is. Row 0 is north
+ * and column 0 is west on latitude/longitude, Mercator and Gaussian grids; on Lambert and polar ones row 0 has the
+ * greatest y and column 0 the least x. */
 typedef struct {
-    int32_t la1;               /* latitude of the first grid point */
-    int32_t lo1;               /* longitude of the first grid point */
-    int32_t la2;               /* latitude of the last grid point */
-    int32_t lo2;               /* longitude of the last grid point */
-    uint16_t ni;               /* points along a row, the chart's columns; GRIB1_MISSING on a thinned octant */
-    uint16_t nj;               /* points along a column: the chart's rows */
-    uint16_t di;               /* distance of points along a row, or GRIB1_MISSING, as on every thinned octant */
-    uint16_t dj;               /* distance of points along a column, or GRIB1_MISSING */
-    uint8_t resolution;        /* resolution flags, GDS octet 17 as carried */
-    uint8_t scan;              /* scanning flags, GDS octet 28 as carried: GRIB1_SCAN_WEST and so on */
-    uint8_t rows;              /* enum grib1_rows. Any other number is refused by 9 in a form, and is a grid without
-                                  points to grib1_place, grib1_point and grib1_row; no header has one */
+    int32_t la1;               /* latitude of the first grid point: every kind, 11-13 */
+    int32_t lo1;               /* longitude of the first grid point: every kind, 14-16 */
+    int32_t la2;               /* latitude of the last grid point: latitude/longitude, Mercator, Gaussian, 18-20 */
+    int32_t lo2;               /* longitude of the last grid point: latitude/longitude, Mercator, Gaussian, 21-23 */
+    int32_t lov;               /* longitude of the meridian that runs along the columns: Lambert, polar, 18-20 */
+    int32_t latin1;            /* latitude where the cylinder cuts the earth: Mercator, 24-26; the first one from the
+                                  pole where the cone does: Lambert, 29-31 */
+    int32_t latin2;            /* the second latitude from the pole where the cone cuts the earth: Lambert, 32-34 */
+    int32_t pole_la;           /* latitude of the southern pole: Lambert, 35-37 */
+    int32_t pole_lo;           /* longitude of the southern pole: Lambert, 38-40 */
+    uint32_t dx;               /* distance of points along a row, in metres: Lambert and polar (Dx), 21-23; Mercator
+                                  (Di), 29-31. In a form at most GRIB1_DISTANCE_MOST, else 9 */
+    uint32_t dy;               /* distance of points along a column, in metres: Lambert and polar (Dy), 24-26; Mercator
+                                  (Dj), 32-34. In a form at most GRIB1_DISTANCE_MOST, else 9 */
+    uint16_t ni;               /* points along a row, the chart's columns: every kind (Nx of Lambert and polar), 7-8;
+                                  GRIB1_MISSING on a thinned octant */
+    uint16_t nj;               /* points along a column, the chart's rows: every kind (Ny of Lambert and polar), 9-10 */
+    uint16_t di;               /* distance of points along a row, in thousandths of a degree, or GRIB1_MISSING, as on
+                                  every thinned octant: latitude/longitude, Gaussian, 24-25 */
+    uint16_t dj;               /* distance of points along a column, in thousandths of a degree, or GRIB1_MISSING:
+                                  latitude/longitude, 26-27 */
+    uint16_t circles;          /* N, latitude circles between a pole and the equator: Gaussian, 26-27. GRIB1_MISSING is
+                                  refused by 9 */
+    uint8_t resolution;        /* resolution flags as carried: every kind, 17 */
+    uint8_t scan;              /* scanning flags as carried, GRIB1_SCAN_WEST and so on: every kind, 28 */
+    uint8_t rows;              /* enum grib1_rows; GRIB1_ROWS_EVEN of every kind but latitude/longitude. Any other
+                                  number is refused by 9 in a form, and is a grid without points to grib1_place,
+                                  grib1_point and grib1_row; no header has one */
+    uint8_t kind;              /* enum grib1_grid_kind: every kind, 6. Any other number is as other rows are */
+    uint8_t centre;            /* projection centre flag as carried: Lambert, polar, 27 */
 } Grib1Grid;
 
 /* What a message says, but for its lists. A value X at a point stands for Y with Y x 10^D = R + X x 2^E. */
@@ -191,7 +231,7 @@ typedef struct {
     uint32_t place;            /* of 20 to 22 where in the message that section starts, of 23 where the octets left over
                                   do, the message's first octet being 1; else 0. The end section's start where an
                                   announced section has no octet left */
-    uint32_t points;           /* n, the grid's points: ni x nj, or a thinned octant's 3,447; at most
+    uint32_t points;           /* n, the grid's points: ni x nj of a rectangle, 3,447 of a thinned octant; at most
                                   GRIB1_POINTS_MOST */
     uint32_t present;          /* how many of them are present */
     int32_t d;                 /* D, the decimal scale */
@@ -226,8 +266,9 @@ typedef struct {
  * another longitude. */
 typedef struct {
     uint32_t on;               /* 1; 0 where the grid has no such point */
-    uint32_t row;              /* row 0 is north */
-    uint32_t column;           /* column 0 is west; below grib1_row of its row */
+    uint32_t row;              /* row 0 is north; on Lambert and polar grids it has the greatest y */
+    uint32_t column;           /* column 0 is west; on Lambert and polar grids it has the least x. Below grib1_row of
+                                  its row */
 } Grib1Place;
 
 /* A grid point. */
@@ -293,13 +334,13 @@ Grib1Part grib1_bitmap(const uint8_t *message, size_t message_len, uint16_t stor
 Grib1Display grib1_display(const uint8_t *message, size_t message_len, uint16_t store_number, const uint8_t *store,
     size_t store_len);
 
-/* Where a grid point lies on the chart of a grid, and which point lies at a place. Of the grid only ni, nj, scan and
- * rows count, and any numbers will do. */
+/* Where a grid point lies on the chart of a grid, and which point lies at a place. Of the grid only ni, nj, scan, rows
+ * and kind count, and any numbers will do. */
 Grib1Place grib1_place(Grib1Grid grid, uint32_t point);
 Grib1Point grib1_point(Grib1Grid grid, uint32_t row, uint32_t column);
 
 /* How many points row `row` of the chart has: ni on a rectangle, its own count on a thinned octant; 0 where the chart
- * has no such row. Any numbers will do. */
+ * has no such row. Of the grid the same fields count, and any numbers will do. */
 uint32_t grib1_row(Grib1Grid grid, uint32_t row);
 
 /* The data number of a grid point of a message. Reads message and store; takes a whole header's time. */

@@ -1,6 +1,7 @@
 //! A proved GRIB Edition 1 codec: a safe face of `libgrib1.a`. Nothing is copied or allocated here: lists and octets
 //! are lent by the caller, and parts are borrowed from them. Every octet string gets the one reply that the rules fix,
-//! and a refusal changes nothing that is lent. It needs no std.
+//! and a refusal changes nothing that is lent. Grids are latitude/longitude (thinned octants too), Mercator, Lambert,
+//! Gaussian and polar stereographic ones: `Projection` has what each kind has of its own. It needs no std.
 //!
 //! ```
 //! # let octets: &[u8] = &[
@@ -44,7 +45,7 @@ mod linked;
 #[cfg(not(feature = "driver"))]
 use linked as face;
 
-pub use grid::{Grid, Place, RowCounts};
+pub use grid::{Grid, Place, Projection, RowCounts};
 pub use refusal::{Refusal, Stop};
 pub use rows::{Row, Rows};
 pub use section::Section;
@@ -243,8 +244,8 @@ impl<'b> Field<'b> {
         self.marks
     }
 
-    /// The chart's rows from north, each from west: X, or None where the point is absent. On a thinned octant each row
-    /// has its own length.
+    /// The chart's rows from north, each from west: X, or None where the point is absent. On a Lambert or polar grid
+    /// they go from the greatest y, each from the least x. On a thinned octant each row has its own length.
     pub fn rows(&self) -> Rows<'b> {
         Rows::new(&self.header.grid, self.values, self.marks)
     }

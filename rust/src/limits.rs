@@ -5,7 +5,7 @@ pub const MESSAGE_LEAST: usize = 8;
 pub const MESSAGE_MOST: usize = 262144;
 
 /// Octets of a message that is written here: an `out` of so many holds any.
-pub const WRITTEN_MOST: usize = 205886;
+pub const WRITTEN_MOST: usize = 205896;
 
 /// Octets of a PDS, an even number.
 pub const PDS_LEAST: usize = 28;
@@ -20,6 +20,9 @@ pub const POINTS_MOST: usize = 65536;
 /// Thousandths of a degree, in magnitude.
 pub const LATITUDE_MOST: i32 = 90000;
 pub const LONGITUDE_MOST: i32 = 360000;
+
+/// Steps of a grid in metres, `dx` and `dy`.
+pub const DISTANCE_MOST: u32 = 16777215;
 
 /// N, bits of a value.
 pub const BITS_MOST: u8 = 24;

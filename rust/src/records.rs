@@ -15,14 +15,31 @@ pub struct Grid {
     pub lo1: i32,
     pub la2: i32,
     pub lo2: i32,
+    pub lov: i32,
+    pub latin1: i32,
+    pub latin2: i32,
+    pub pole_la: i32,
+    pub pole_lo: i32,
+    pub dx: u32,
+    pub dy: u32,
     pub ni: u16,
     pub nj: u16,
     pub di: u16,
     pub dj: u16,
+    pub circles: u16,
     pub resolution: u8,
     pub scan: u8,
     pub rows: u8,
+    pub kind: u8,
+    pub centre: u8,
 }
+
+// The kind of a grid: GDS octet 6.
+pub const LATLON: u8 = 0;
+pub const MERCATOR: u8 = 1;
+pub const LAMBERT: u8 = 3;
+pub const GAUSSIAN: u8 = 4;
+pub const POLAR: u8 = 5;
 
 #[derive(Clone, Copy)]
 #[repr(C)]

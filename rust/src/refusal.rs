@@ -24,7 +24,7 @@ pub struct Stop {
     pub place: u32,
 }
 
-// What each number says, after document 01's table and document 02's R-2 and R-3.
+// What each number says, after document 01's table and document 02's R-1 to R-4.
 const WORDS: [&str; 24] = [
     "accepted",
     "slice below 8 or above 262,144 octets",
@@ -35,9 +35,10 @@ const WORDS: [&str; 24] = [
     "time out of its ranges: century 18 to 99, year of century 1 to 100, month 1 to 12, a day of that month, \
      hour 0 to 23, minute 0 to 59",
     "no GDS, octet 7 not in the catalogue",
-    "GDS length or octets 4 to 6 not as the rules say",
-    "Ni, Nj, n, a latitude, a longitude or the scan test outside the rules, or a thinned grid that is none of the \
-     eight octants",
+    "GDS of no accepted type and length: types 0, 4 and 5 (octet 6) are 32 octets long, 1 and 3 are 42, with octets 4 \
+     and 5 0 and 255; a thinned octant is of type 0 and 178 octets long, with 0 and 33",
+    "Ni, Nj, n, a latitude, a longitude or, of types 0, 1 and 4, the scan test outside the rules, a Gaussian N that is \
+     missing, a thinned grid that is none of the eight octants, or a step to be written over 16,777,215 metres",
     "bitmap rule broken, or no such stored bitmap, or one of its first n bits isn't the same number as the mark",
     "BDS flag bit 1, 2 or 4 set, N over 24, or E outside −32,767 to 32,767",
     "data length rule broken",

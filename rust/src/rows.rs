@@ -2,7 +2,7 @@
 // of each row and for its length, and a point costs a sum and two fetches.
 use crate::{Grid, Place};
 
-/// The rows of a chart, from north.
+/// The rows of a chart, from north; of a Lambert or polar grid from the greatest y.
 #[derive(Clone, Debug)]
 pub struct Rows<'b> {
     grid: Grid,
@@ -36,7 +36,7 @@ impl<'b> Iterator for Rows<'b> {
 
 impl ExactSizeIterator for Rows<'_> {}
 
-/// A row of a chart, from west: X, or None where the point is absent.
+/// A row of a chart, from west, of a Lambert or polar grid from the least x: X, or None where the point is absent.
 #[derive(Clone, Debug)]
 pub struct Row<'b> {
     values: &'b [u32],

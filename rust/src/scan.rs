@@ -1,4 +1,5 @@
-//! The scanning flags of a grid: bits 1, 2 and 3 of GDS octet 28. The others are carried and mean nothing here.
+//! The scanning flags of a grid: bits 1, 2 and 3 of GDS octet 28. The others are carried and mean nothing here. On
+//! Lambert and polar grids west is towards the least x, and north towards the greatest y.
 
 /// Columns run west, else east.
 pub const WEST: u8 = 128;

@@ -1,5 +1,5 @@
 // The messages that crates/list_cases lists, listed here by rows: the text is the same.
-use grib1::{Message, Refusal, RowCounts, Stored};
+use grib1::{Message, Projection, Refusal, Stored};
 use std::fmt::Write;
 use std::fs;
 use std::path::Path;
@@ -19,7 +19,7 @@ fn listed(octets: &[u8]) -> Result<String, u32> {
     let field = message.read(&mut values, &mut marks).map_err(reply)?;
     let h = field.header();
     // of a thinned grid, document 02: "The listing's columns are then 0"
-    let columns = if h.grid.rows == RowCounts::Even { h.grid.ni } else { 0 };
+    let columns = if matches!(h.grid.projection, Projection::Thinned { .. }) { 0 } else { h.grid.ni };
     let rows = h.grid.nj;
     let mut text = format!("{} {} {columns} {rows} {} {} {:08x} {}\n", h.points, h.present, h.d, h.e, h.r, h.bits);
     for row in field.rows() {

@@ -1,6 +1,6 @@
 // Thinned octants, grids 37 to 44: their rows and places, and messages of them read, written, packed and checked.
-use grib1::{length, limits, pack, scan, write, Bitmap, Data, Form, Grid, Message, Parts, Place, RowCounts, Section};
-use grib1::{Source, Stored};
+use grib1::{length, limits, pack, scan, write, Bitmap, Data, Form, Grid, Message, Parts, Place, Projection};
+use grib1::{RowCounts, Section, Source, Stored};
 use std::fs;
 use std::path::{Path, PathBuf};
 
@@ -20,7 +20,8 @@ fn octant(number: u8) -> Grid {
     let (la1, la2, rows) =
         if number < 41 { (0, 90000, RowCounts::FromEquator) } else { (-90000, 0, RowCounts::FromPole) };
     let (lo1, lo2) = [(330000, 60000), (60000, 150000), (150000, 240000), (240000, 330000)][(number as usize - 37) % 4];
-    Grid { ni: 65535, nj: 73, la1, lo1, resolution: 128, la2, lo2, di: 65535, dj: 1250, scan: scan::NORTH, rows }
+    let projection = Projection::Thinned { rows, la2, lo2, di: 65535, dj: 1250 };
+    Grid { ni: 65535, nj: 73, la1, lo1, resolution: 128, scan: scan::NORTH, projection }
 }
 
 // How long the chart's rows are, from north: the pole comes first in the north, and the equator in the south.
@@ -67,12 +68,8 @@ fn catalogued() {
         la1,
         lo1: 0,
         resolution: 128,
-        la2,
-        lo2,
-        di: step,
-        dj: step,
         scan,
-        rows: RowCounts::Even,
+        projection: Projection::LatLon { la2, lo2, di: step, dj: step },
     };
     for (number, grid) in [
         (2, even(144, 73, 90000, -90000, 357500, 2500, 0)),
@@ -215,19 +212,25 @@ fn refused() {
     let g = octant(38);
     assert_eq!(told(g), Ok(8 + 28 + 178 + 442 + 4));
     for grid in [
-        Grid { rows: RowCounts::Even, ..g },
-        Grid { rows: RowCounts::FromPole, ..g },
         Grid { ni: 73, ..g },
         Grid { nj: 72, ..g },
         Grid { la1: 1250, ..g },
-        Grid { la2: 88750, ..g },
         Grid { lo1: 330000, ..g },
-        Grid { lo2: 240000, ..g },
-        Grid { di: 1250, ..g },
-        Grid { dj: limits::MISSING, ..g },
         Grid { resolution: 0, ..g },
         Grid { scan: 0, ..g },
     ] {
         assert_eq!(told(grid), Err(9));
+    }
+    let (rows, la2, lo2, di, dj) = (RowCounts::FromEquator, 90000, 150000, limits::MISSING, 1250);
+    assert_eq!(g.projection, Projection::Thinned { rows, la2, lo2, di, dj });
+    for projection in [
+        Projection::LatLon { la2, lo2, di, dj },
+        Projection::Thinned { rows: RowCounts::FromPole, la2, lo2, di, dj },
+        Projection::Thinned { rows, la2: 88750, lo2, di, dj },
+        Projection::Thinned { rows, la2, lo2: 240000, di, dj },
+        Projection::Thinned { rows, la2, lo2, di: 1250, dj },
+        Projection::Thinned { rows, la2, lo2, di, dj: limits::MISSING },
+    ] {
+        assert_eq!(told(Grid { projection, ..g }), Err(9));
     }
 }

@@ -1,6 +1,6 @@
 // Every function on document 01's specimen.
 use grib1::{length, limits, pack, scan, write, Bitmap, Data, Display, Form, Grid, Header, Message, Moment, Parts};
-use grib1::{Place, RowCounts, Section, Source, Stored};
+use grib1::{Place, Projection, Section, Source, Stored};
 
 const SPECIMEN: &str = "4752494200005E01\
     00001C030700FFC00B6401F462030A06000100000000000014000001\
@@ -15,12 +15,8 @@ const GRID: Grid = Grid {
     la1: 50000,
     lo1: -2000,
     resolution: 128,
-    la2: 51000,
-    lo2: -1000,
-    di: 1000,
-    dj: 1000,
     scan: scan::NORTH,
-    rows: RowCounts::Even,
+    projection: Projection::LatLon { la2: 51000, lo2: -1000, di: 1000, dj: 1000 },
 };
 
 const HEADER: Header = Header {

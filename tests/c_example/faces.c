@@ -8,7 +8,7 @@
 
 static const Grib1Grid specimen_grid = {
     .la1 = 50000, .lo1 = -2000, .la2 = 51000, .lo2 = -1000, .ni = 2, .nj = 2, .di = 1000, .dj = 1000,
-    .resolution = 128, .scan = GRIB1_SCAN_NORTH, .rows = GRIB1_ROWS_EVEN,
+    .resolution = 128, .scan = GRIB1_SCAN_NORTH, .rows = GRIB1_ROWS_EVEN, .kind = GRIB1_LATLON,
 };
 
 static void is_specimen(int line, Grib1Header h)
@@ -226,7 +226,7 @@ static void writing(void)
 
 int main(void)
 {
-    same(sizeof(Grib1Grid), 28);
+    same(sizeof(Grib1Grid), 60);
     reading();
     parts();
     points();

@@ -1,5 +1,5 @@
 """The constants of include/grib1.h and of the Rust crate are those of crates/rules/src/bounds.rt, which the codec is proved with, their sections
-have the same numbers, and their versions are one."""
+and kinds of grids have the same numbers, and their versions are one."""
 import os
 import re
 import sys
@@ -29,16 +29,18 @@ def even(octets):
 
 
 # what no caller meets: the bounds of the listing program, and of sections that are whole in what is lent
-INSIDE = {"LISTED_MOST", "LISTED_ROOM", "GDS_LEAST", "GDS_LENGTH", "THINNED_LENGTH", "OCTANT_ROWS", "OCTANT_POINTS", "BMS_LEAST", "BMS_HEAD", "BDS_LEAST", "BDS_HEAD"}
-limits = {name: value for name, value in bounds.items() if name not in INSIDE}
+INSIDE = {"LISTED_MOST", "LISTED_ROOM", "GDS_LEAST", "OCTANT_ROWS", "OCTANT_POINTS", "BMS_LEAST", "BMS_HEAD", "BDS_LEAST", "BDS_HEAD"}
+lengths = {name: value for name, value in bounds.items() if name.endswith("_LENGTH")}
+limits = {name: value for name, value in bounds.items() if name not in INSIDE and name not in lengths}
 
-# every section of a rectangle at its most: indicator, PDS, GDS, a bitmap that is carried, data, end; a thinned octant has a longer GDS and
-# far fewer points (crates/theorems/specs/Returns.antt, WrittenFits)
+# every section of a rectangle at its most: indicator, PDS, GDS of the kind whose GDS is longest, a bitmap that is carried, data, end; a
+# thinned octant has a longer GDS and far fewer points (crates/theorems/specs/Returns.antt, WrittenFits)
 limits["WRITTEN_MOST"] = (
-    8 + bounds["PDS_MOST"] + bounds["GDS_LENGTH"] + even(bounds["BMS_HEAD"] + bounds["POINTS_MOST"] // 8)
+    8 + bounds["PDS_MOST"] + max(value for name, value in lengths.items() if name != "THINNED_LENGTH") + even(bounds["BMS_HEAD"] + bounds["POINTS_MOST"] // 8)
     + even(bounds["BDS_HEAD"] + bounds["POINTS_MOST"] * bounds["BITS_MOST"] // 8) + 4
 )
 limits["MISSING"] = 2**16 - 1
+limits.setdefault("DISTANCE_MOST", 2**24 - 1)  # three octets without a sign
 for where, found in [("include/grib1.h", c), ("rust/src/limits.rs", rust)]:
     own = {name: value for name, value in found.items() if not name.startswith(("VERSION", "SCAN", "STACK"))}
     for name in sorted(limits.keys() | own.keys()):
@@ -60,6 +62,15 @@ for where, found in [
     if found != sections:
         wrong.append(f"{where}: the sections are {found}, and by the rules {sections}")
 
+# document 003's Table 6: "DATA REPRESENTATION TYPE (GDS OCTET 6)"
+kinds = {"LATLON": 0, "MERCATOR": 1, "LAMBERT": 3, "GAUSSIAN": 4, "POLAR": 5}
+for where, found in [
+    ("include/grib1.h", numbers(re.search(r"^enum grib1_grid_kind \{$.*?^\};$", header, re.M | re.S)[0], r"^    GRIB1_(\w+) = (\d+)\b")),
+    ("rust/src/records.rs", numbers(text("rust", "src", "records.rs"), r"^pub const (\w+): u8 = (\d+);$")),
+]:
+    if found != kinds:
+        wrong.append(f"{where}: the kinds of grids are {found}, and by the rules {kinds}")
+
 version = ".".join(str(c[f"VERSION_{part}"]) for part in ("MAJOR", "MINOR", "PATCH"))
 for where, found in [
     ("include/grib1.h, GRIB1_VERSION", re.search(r'^#define GRIB1_VERSION "(.*)"$', header, re.M)[1]),
@@ -72,4 +83,7 @@ for where, found in [
 if wrong:
     print("\n".join("limits: " + w for w in wrong))
     sys.exit(1)
-print(f"limits: {len(limits)} bounds, {len(bits)} scanning bits and {len(sections)} sections, in C and in Rust as in the rules; version {version}")
+print(
+    f"limits: {len(limits)} bounds, {len(bits)} scanning bits, {len(sections)} sections and {len(kinds)} kinds of grids, in C and in Rust as in "
+    f"the rules; version {version}"
+)

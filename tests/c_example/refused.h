@@ -1,5 +1,5 @@
-/* What every function says of a message, or of a PDS, that is refused: the reply, and no buffer changed. The source and
- * the parts are the specimen's. TEST is the name of the test's file. */
+/* What every function says of a message, or of a PDS or a form, that is refused: the reply, and no buffer changed. The
+ * source and the parts are the specimen's. TEST is the name of the test's file. */
 #ifndef REFUSED_H
 #define REFUSED_H
 
@@ -47,10 +47,9 @@ static Grib1Form specimen_form(void)
     return form;
 }
 
-static void unwritten(int line, const uint8_t *pds, size_t pds_len, uint32_t reply)
+static void unwritten_as(int line, const uint8_t *pds, size_t pds_len, Grib1Form form, uint32_t reply)
 {
-    Grib1Form form = specimen_form();
-    uint8_t out[96];
+    uint8_t out[128];
     Grib1Written w[3];
     size_t k;
 
@@ -65,5 +64,7 @@ static void unwritten(int line, const uint8_t *pds, size_t pds_len, uint32_t rep
     for (k = 0; k < sizeof out; k++)
         same_at(line, out[k], 0xAA);
 }
+
+#define unwritten(line, pds, pds_len, reply) unwritten_as(line, pds, pds_len, specimen_form(), reply)
 
 #endif

@@ -31,13 +31,23 @@ static void same_grid(int line, Grib1Grid is, Grib1Grid wanted)
     same_at(line, is.lo1, wanted.lo1);
     same_at(line, is.la2, wanted.la2);
     same_at(line, is.lo2, wanted.lo2);
+    same_at(line, is.lov, wanted.lov);
+    same_at(line, is.latin1, wanted.latin1);
+    same_at(line, is.latin2, wanted.latin2);
+    same_at(line, is.pole_la, wanted.pole_la);
+    same_at(line, is.pole_lo, wanted.pole_lo);
+    same_at(line, is.dx, wanted.dx);
+    same_at(line, is.dy, wanted.dy);
     same_at(line, is.ni, wanted.ni);
     same_at(line, is.nj, wanted.nj);
     same_at(line, is.di, wanted.di);
     same_at(line, is.dj, wanted.dj);
+    same_at(line, is.circles, wanted.circles);
     same_at(line, is.resolution, wanted.resolution);
     same_at(line, is.scan, wanted.scan);
     same_at(line, is.rows, wanted.rows);
+    same_at(line, is.kind, wanted.kind);
+    same_at(line, is.centre, wanted.centre);
 }
 
 /* a header's, a display's or a check's reply, and what it tells */

@@ -67,13 +67,23 @@ static void tell_grid(Grib1Grid g)
     tell((uint32_t)g.lo1);
     tell((uint32_t)g.la2);
     tell((uint32_t)g.lo2);
+    tell((uint32_t)g.lov);
+    tell((uint32_t)g.latin1);
+    tell((uint32_t)g.latin2);
+    tell((uint32_t)g.pole_la);
+    tell((uint32_t)g.pole_lo);
+    tell(g.dx);
+    tell(g.dy);
     tell(g.ni);
     tell(g.nj);
     tell(g.di);
     tell(g.dj);
+    tell(g.circles);
     tell(g.resolution);
     tell(g.scan);
     tell(g.rows);
+    tell(g.kind);
+    tell(g.centre);
 }
 
 static void tell_part(Grib1Part p)
@@ -128,13 +138,23 @@ static Grib1Grid grid(void)
     g.lo1 = (int32_t)word();
     g.la2 = (int32_t)word();
     g.lo2 = (int32_t)word();
+    g.lov = (int32_t)word();
+    g.latin1 = (int32_t)word();
+    g.latin2 = (int32_t)word();
+    g.pole_la = (int32_t)word();
+    g.pole_lo = (int32_t)word();
+    g.dx = word();
+    g.dy = word();
     g.ni = (uint16_t)word();
     g.nj = (uint16_t)word();
     g.di = (uint16_t)word();
     g.dj = (uint16_t)word();
+    g.circles = (uint16_t)word();
     g.resolution = (uint8_t)word();
     g.scan = (uint8_t)word();
     g.rows = (uint8_t)word();
+    g.kind = (uint8_t)word();
+    g.centre = (uint8_t)word();
     return g;
 }
 

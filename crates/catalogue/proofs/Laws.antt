@@ -11,7 +11,8 @@ use lib.ListN.{length, drop, getD}
 use Rattle.rules.specs.declared.Entry.{Entry}
 use Rattle.rules.specs.declared.Found.the-variants.{Given}
 use Rattle.rules.specs.declared.{Grid.Grid}
-use Rattle.rules.specs.Grid.{rowsNumber, entry, lookup, edgesOf, sameGrid, likeOne}
+use Rattle.rules.specs.Figures.{figuresOf}
+use Rattle.rules.specs.Grid.{entry, lookup, sameGrid, likeOne}
 use Rattle.catalogue.specs.declared.{Numbers.Numbers}
 
 -- what a table's numbers stand for, of any table
@@ -22,7 +23,7 @@ standsFor n = entry (n .number) (n .ni) (n .nj) (n .la1) (n .lo1) (n .la2) (n .l
 abbrev pub numbersOf : Entry → Numbers
 numbersOf e =
     let g = e .grid in
-    let x = edgesOf (g .geometry) in
+    let x = figuresOf (g .geometry) in
     record {
       number = e .number;
       ni = g .ni;
@@ -34,7 +35,7 @@ numbersOf e =
       di = x .di;
       dj = x .dj;
       scan = g .scan;
-      rows = rowsNumber (g .geometry);
+      rows = x .rows;
     }
 
 -- The rows from i on are the row at i and those after it.

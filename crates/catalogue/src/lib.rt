@@ -6,14 +6,14 @@ ghost use mathlib.Core.List.{_∷_};
 ghost use Prim.Native.Nat.{_+_, _<_};
 ghost use lib.ListN.{length, drop};
 ghost use Rattle.rules.specs.Table.{anyOf};
-ghost use Rattle.rules.specs.Grid.{entry as theEntry, octants, catalogue, lookup, apart as theApart, gridDiffers};
-ghost use Rattle.rules.specs.Grid.{likeOne};
-use kinds::edges_of;
+ghost use Rattle.rules.specs.Grid.{entry as theEntry, octants, catalogue, lookup, apart as theApart, figuresDiffer};
+ghost use Rattle.rules.specs.Grid.{gridDiffers, likeOne};
+use kinds::figures_of;
 use kinds::geometry_by;
-use kinds::rows_number;
 use octets::plain;
 use rules::Edges;
 use rules::Entry;
+use rules::Figures;
 use rules::Found;
 use rules::Grid;
 use rules::Signed;
@@ -295,27 +295,42 @@ fn apart(a: Signed, b: Signed) -> bool
     (a.value < b.value) | (b.value < a.value)
 }
 
+// Two geometries that differ in a figure, angles by their values.
+fn figures_differ(x: Figures, y: Figures) -> bool
+    ensures { λ r. ⌜ r ≡ anyOf (figuresDiffer x y) ⌝ }
+{
+    (x.kind != y.kind)
+        | (x.rows != y.rows)
+        | apart(x.la2, y.la2)
+        | apart(x.lo2, y.lo2)
+        | (x.di != y.di)
+        | (x.dj != y.dj)
+        | (x.dx != y.dx)
+        | (x.dy != y.dy)
+        | apart(x.lov, y.lov)
+        | apart(x.latin1, y.latin1)
+        | apart(x.latin2, y.latin2)
+        | apart(x.pole_la, y.pole_la)
+        | apart(x.pole_lo, y.pole_lo)
+        | (x.centre != y.centre)
+        | (x.circles != y.circles)
+}
+
 // Two grids that differ in a field, signed fields by their values.
 fn differs(g: Grid, o: Grid) -> bool
     ensures { λ r. ⌜ r ≡ anyOf (gridDiffers g o) ⌝ }
 {
     let a = g.geometry;
     let b = o.geometry;
-    let x = edges_of(a);
-    let y = edges_of(b);
-    let m = rows_number(a);
-    let n = rows_number(b);
+    let x = figures_of(a);
+    let y = figures_of(b);
     (g.ni != o.ni)
         | (g.nj != o.nj)
         | apart(g.la1, o.la1)
         | apart(g.lo1, o.lo1)
         | (g.flags != o.flags)
         | (g.scan != o.scan)
-        | apart(x.la2, y.la2)
-        | apart(x.lo2, y.lo2)
-        | (x.di != y.di)
-        | (x.dj != y.dj)
-        | (m != n)
+        | figures_differ(x, y)
 }
 
 // Whether a grid is "by value one of the eight" octants.

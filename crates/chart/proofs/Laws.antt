@@ -1,6 +1,6 @@
 -- A count turned stays below its bound, and a point's number fits; what a shape of each kind has; what is answered inside
 -- the chart and outside. By cases and arithmetic.
-use mathlib.Core.Path.{_≡_, refl, sym, ap, _∙_, subst}
+use mathlib.Core.Path.{_≡_, sym, ap, _∙_, subst}
 use mathlib.Core.List.{List}
 use mathlib.Core.Bool.{Bool, true, false, _&&_, cond}
 use Prim.Native.Nat.{ℕ, _+_, _*_, _<_, _≤_}
@@ -11,12 +11,11 @@ use lib.ListN.{length, getD}
 use Rattle.bits.proofs.Products.{product, left-positive, right-positive}
 use Rattle.bits.proofs.Tests.{and-left, and-right}
 use Rattle.rules.specs.declared.{Rectangle.Rectangle, Thinning.Thinning, Shape.Shape, Shape.the-variants.Even}
-use Rattle.rules.specs.declared.{Shape.the-variants.Uneven, Edges.Edges, Octant.Octant, Geometry.the-variants.LatLon}
-use Rattle.rules.specs.declared.{Geometry.the-variants.Thinned, Grid.Grid}
+use Rattle.rules.specs.declared.{Shape.the-variants.Uneven, Geometry.Geometry, Grid.Grid}
 use Rattle.rules.specs.declared.{GridPoint.GridPoint, Spot.Spot, Charted.the-variants.On}
 use Rattle.rules.specs.declared.{Charted.the-variants.Off, Pointed.the-variants.At, Pointed.the-variants.Off as Nowhere}
 use Rattle.rules.specs.Counts.{total, countsOf}
-use Rattle.rules.specs.Chart.{west, north, turned, spotOf, pointOf, spotAmong, across, pointAmong}
+use Rattle.rules.specs.Chart.{north, turned, spotOf, pointOf, spotAmong, across, pointAmong}
 use Rattle.rules.specs.Chart.{pointsOn, rowsOn, rowLong, columnsOn, spotOn, pointOn, charted, pointed}
 use Rattle.rules.specs.Grid.{shapeBy, shapeOf}
 
@@ -114,16 +113,10 @@ module _ (g : Shape) (u : Thinning) (e : g ≡ Uneven u) where
   among c r l =
       (subst (λ (x : Shape). c .row < rowsOn x) e r, subst (λ (x : Shape). c .column < rowLong x (c .row)) e l)
 
--- the shape of a grid
-pub shape-even : (g : Grid) (x : Edges) → g .geometry ≡ LatLon x
-    → Even (record { ni = g .ni; nj = g .nj; scan = g .scan }) ≡ shapeOf g
+-- the shape of a grid, by its geometry
+pub shape-by : (g : Grid) (x : Geometry) → g .geometry ≡ x → (q : Shape) → q ≡ shapeBy g x → q ≡ shapeOf g
 unfolding shapeOf
-shape-even g x e = sym (ap (shapeBy g) e)
-
-pub shape-uneven : (g : Grid) (o : Octant) → g .geometry ≡ Thinned o
-    → Uneven (record { start = o .start; scan = g .scan }) ≡ shapeOf g
-unfolding shapeOf
-shape-uneven g o e = sym (ap (shapeBy g) e)
+shape-by g x e q h = h ∙ sym (ap (shapeBy g) e)
 
 -- a row of these counts, of the chart and outside
 module _ (counts : List ℕ) (scan r n : ℕ) (e : n ≡ length counts) where

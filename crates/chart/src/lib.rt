@@ -7,7 +7,7 @@ ghost use lib.ListN.{length};
 ghost use Rattle.rules.specs.Counts.{countsOf};
 ghost use Rattle.rules.specs.Chart.{turned as theTurned, spotOf, pointOf, spotAmong, across as theAcross, pointAmong};
 ghost use Rattle.rules.specs.Chart.{pointsOn, rowsOn, rowLong, columnsOn, spotOn, pointOn, charted, pointed};
-ghost use Rattle.rules.specs.Grid.{shapeOf};
+ghost use Rattle.rules.specs.Grid.{rectangleOf, shapeOf};
 use choices::less;
 use choices::pick;
 use octants::before_row;
@@ -104,17 +104,24 @@ fn area(q: Rectangle) -> u32
     q.ni as u32 * q.nj as u32
 }
 
+// The rectangle of Ni columns and Nj rows, which every grid is that is not thinned.
+fn rectangle_of(g: Grid) -> Shape
+    ensures { λ r. ⌜ r ≡ rectangleOf g ⌝ }
+{
+    Shape::Even(Rectangle {
+        ni: g.ni,
+        nj: g.nj,
+        scan: g.scan,
+    })
+}
+
 // What points, places and rows ask of a grid.
 pub fn shape_of(g: Grid) -> Shape
     ensures { λ r. ⌜ r ≡ shapeOf g ⌝ }
 {
     let x = g.geometry;
     match x {
-        Geometry::LatLon(_) => Shape::Even(Rectangle {
-            ni: g.ni,
-            nj: g.nj,
-            scan: g.scan,
-        }),
+        Geometry::LatLon(_) => rectangle_of(g),
         Geometry::Thinned(o) => {
             let start = o.start;
             Shape::Uneven(Thinning {
@@ -122,6 +129,10 @@ pub fn shape_of(g: Grid) -> Shape
                 scan: g.scan,
             })
         }
+        Geometry::Mercator(_) => rectangle_of(g),
+        Geometry::Lambert(_) => rectangle_of(g),
+        Geometry::Gaussian(_) => rectangle_of(g),
+        Geometry::Polar(_) => rectangle_of(g),
     }
 }
 

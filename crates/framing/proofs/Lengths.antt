@@ -2,20 +2,20 @@
 -- lengths.
 use mathlib.Core.Path.{_≡_, refl, ap, _∙_}
 use mathlib.Core.List.{List, []}
-use Prim.Native.Nat.{ℕ, _+_, _-_, _*_, _≤_, _<_}
+use Prim.Native.Nat.{ℕ, _+_, _-_, _*_, _≤_}
 use native.Mathlib.Nat.{mul-le-mul}
 use native.Mathlib.Omega.{arith}
 use lib.ListN.{length}
 use Rattle.bits.specs.Bits.{bitsIn, octetsFor, runs}
 use Rattle.bits.specs.Tables.{tab}
 use Rattle.bits.proofs.Trip.{length-runs}
-use Rattle.rules.specs.declared.{Geometry.Geometry, Geometry.the-variants.LatLon, Geometry.the-variants.Thinned}
 use Rattle.rules.specs.declared.{Found.Found, Found.the-variants.Nothing, Found.the-variants.Given}
 use Rattle.rules.specs.declared.{Bitmap.Bitmap, Bitmap.the-variants.Without, Bitmap.the-variants.Carried}
 use Rattle.rules.specs.declared.{Bitmap.the-variants.Stored, Form.Form, Scale.Scale, Packing.Packing}
 use Rattle.rules.specs.Bounds.{pdsMost, thinnedLength, bmsHead, bdsLeast, bdsHead, pointsMost, bitsMost}
 use Rattle.rules.specs.Numbers.{evenFrom}
-use Rattle.rules.specs.Grid.{lengthBy, kindOf}
+use Rattle.rules.specs.Layouts.{Kind, latlon, thinned, mercator, lambert, gaussian, polar, lengthBy}
+use Rattle.rules.specs.Grid.{kindOf}
 use Rattle.rules.specs.Bitmap.{bmsFields, bmsOf}
 use Rattle.rules.specs.Values.{bdsOf}
 use Rattle.rules.specs.Writing.{gdsFor}
@@ -24,14 +24,18 @@ use Rattle.laws.proofs.Lengths.{gds-length, bds-length}
 use Rattle.framing.specs.Layout.{gdsRoom, bmsRoom, bdsRoom, frontRoom, messageRoom, bmsMost, dataMost, bdsMost}
 use Rattle.framing.specs.Layout.{roomMost}
 
-kind-few : (x : Geometry) → lengthBy (kindOf x) ≤ thinnedLength
-kind-few (LatLon x) = omega arith
-kind-few (Thinned o) = omega arith
+kind-few : (k : Kind) → lengthBy k ≤ thinnedLength
+kind-few latlon = omega arith
+kind-few thinned = omega arith
+kind-few mercator = omega arith
+kind-few lambert = omega arith
+kind-few gaussian = omega arith
+kind-few polar = omega arith
 
 pub gds-few : (f : Found) → gdsRoom f ≤ thinnedLength
 unfolding gdsRoom
 gds-few Nothing = omega arith
-gds-few (Given g) = kind-few (g .geometry)
+gds-few (Given g) = kind-few (kindOf (g .geometry))
 
 pub bms-few : (b : Bitmap) (n : ℕ) → n ≤ pointsMost → bmsRoom b n ≤ bmsMost
 unfolding bmsRoom

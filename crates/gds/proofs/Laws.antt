@@ -1,7 +1,7 @@
 -- The counts of a section beside an octant's, from each row on; the start by its two tests; the kind that is the first
 -- to be admitted.
-use Prim.Native.Nat.{ℕ, zero, suc, _+_, _-_, _*_, _<_}
-use mathlib.Core.Bool.{Bool, true, false, _&&_, cond}
+use Prim.Native.Nat.{ℕ, suc, _+_, _-_, _*_, _<_}
+use mathlib.Core.Bool.{Bool, true, false, _&&_}
 use mathlib.Core.Path.{_≡_, refl, sym, _∙_, ap}
 use mathlib.Core.List.{List, [], _∷_}
 use native.Mathlib.Omega.{arith}
@@ -9,13 +9,13 @@ use lib.Dec.{eqb}
 use lib.ListN.{length, getD, drop}
 use lib.Seq.{drop-length}
 use Rattle.bits.specs.Bits.{bitsIn, run}
-use Rattle.rules.specs.declared.{Part.Part, Start.Start, Start.the-variants.Equator, Start.the-variants.Pole}
+use Rattle.rules.specs.declared.{Part.Part, Start.the-variants.Equator, Start.the-variants.Pole}
 use Rattle.rules.specs.declared.{Start.the-variants.Neither, Grid.Grid}
 use Rattle.rules.specs.Bounds.{octantRows}
 use Rattle.rules.specs.Counts.{fromEquator, countsOf}
 use Rattle.rules.specs.Columns.{cellsAt}
-use Rattle.rules.specs.Grid.{Kind, latlon, thinned, kinds, columns, countColumns, admits, firstKind, kindAt, countsHeld}
-use Rattle.rules.specs.Grid.{sameCounts, startOf, gridOfCells, gridAt}
+use Rattle.rules.specs.Layouts.{Kind, latlon, thinned, mercator, lambert, gaussian, polar, kinds, columns, countColumns}
+use Rattle.rules.specs.Grid.{admits, firstKind, kindAt, countsHeld, sameCounts, startOf, gridOfCells, gridAt}
 use Rattle.laws.proofs.Counts.{rows-at}
 
 -- what is held in so many columns from octet k on
@@ -106,8 +106,25 @@ module _ (s : List ℕ) (p : Part) where
   pub as-latlon : admits s p latlon ≡ true → read latlon ≡ gridAt s p
   as-latlon a = read-as latlon (rw a)
 
-  pub as-thinned : admits s p latlon ≡ false → admits s p thinned ≡ true → read thinned ≡ gridAt s p
-  as-thinned a b = read-as thinned (rw (a, b))
+  module _ (n0 : admits s p latlon ≡ false) where
+    pub as-thinned : admits s p thinned ≡ true → read thinned ≡ gridAt s p
+    as-thinned a = read-as thinned (rw (n0, a))
 
-  pub as-none : admits s p latlon ≡ false → admits s p thinned ≡ false → read latlon ≡ gridAt s p
-  as-none a b = read-as latlon (rw (a, b))
+    module _ (n1 : admits s p thinned ≡ false) where
+      pub as-mercator : admits s p mercator ≡ true → read mercator ≡ gridAt s p
+      as-mercator a = read-as mercator (rw (n0, n1, a))
+
+      module _ (n2 : admits s p mercator ≡ false) where
+        pub as-lambert : admits s p lambert ≡ true → read lambert ≡ gridAt s p
+        as-lambert a = read-as lambert (rw (n0, n1, n2, a))
+
+        module _ (n3 : admits s p lambert ≡ false) where
+          pub as-gaussian : admits s p gaussian ≡ true → read gaussian ≡ gridAt s p
+          as-gaussian a = read-as gaussian (rw (n0, n1, n2, n3, a))
+
+          module _ (n4 : admits s p gaussian ≡ false) where
+            pub as-polar : admits s p polar ≡ true → read polar ≡ gridAt s p
+            as-polar a = read-as polar (rw (n0, n1, n2, n3, n4, a))
+
+            pub as-none : admits s p polar ≡ false → read latlon ≡ gridAt s p
+            as-none a = read-as latlon (rw (n0, n1, n2, n3, n4, a))

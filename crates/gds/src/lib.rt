@@ -8,20 +8,26 @@ ghost use Rattle.rules.specs.Bounds.{octantRows};
 ghost use Rattle.rules.specs.Counts.{countsOf};
 ghost use Rattle.rules.specs.Numbers.{octet as theOctet, number, signedAt};
 ghost use Rattle.rules.specs.Columns.{cellsAt};
-ghost use Rattle.rules.specs.Grid.{latlon, thinned, countColumns, columns, countsHeld, sameCounts, startOf};
-ghost use Rattle.rules.specs.Grid.{gridOfCells, gridAt, gdsBad};
+ghost use Rattle.rules.specs.Layouts.{latlon, thinned, mercator, lambert, gaussian, polar, countColumns, columns};
+ghost use Rattle.rules.specs.Grid.{countsHeld, sameCounts, startOf, gridOfCells, gridAt, gdsBad};
 use octants::count;
 use octets::octet;
 use octets::signed_three;
+use octets::three;
 use octets::two;
+use rules::Belts;
+use rules::Cone;
+use rules::Cylinder;
 use rules::Edges;
 use rules::Found;
 use rules::Geometry;
 use rules::Grid;
 use rules::Octant;
 use rules::Part;
+use rules::Plane;
 use rules::Start;
 use rules::bounds::GDS_LENGTH;
+use rules::bounds::LONG_LENGTH;
 use rules::bounds::OCTANT_ROWS;
 use rules::bounds::THINNED_LENGTH;
 
@@ -39,6 +45,83 @@ fn edges_at(s: &[u8], g: usize) -> Edges
         lo2: signed_three(s, g, 21),
         di: two(s, g, 24),
         dj: two(s, g, 26),
+    }
+}
+
+// Octets 18 to 26 and 29 to 34 of a Mercator grid.
+fn cylinder_at(s: &[u8], g: usize) -> Cylinder
+    ensures { λ r. ⌜ r ≡ record {
+      la2 = signedAt (now (s .entry)) g 18 20;
+      lo2 = signedAt (now (s .entry)) g 21 23;
+      latin = signedAt (now (s .entry)) g 24 26;
+      di = number (now (s .entry)) g 29 31;
+      dj = number (now (s .entry)) g 32 34;
+    } ⌝ }
+{
+    Cylinder {
+        la2: signed_three(s, g, 18),
+        lo2: signed_three(s, g, 21),
+        latin: signed_three(s, g, 24),
+        di: three(s, g, 29),
+        dj: three(s, g, 32),
+    }
+}
+
+// Octets 18 to 27 of a Gaussian grid.
+fn belts_at(s: &[u8], g: usize) -> Belts
+    ensures { λ r. ⌜ r ≡ record {
+      la2 = signedAt (now (s .entry)) g 18 20;
+      lo2 = signedAt (now (s .entry)) g 21 23;
+      di = number (now (s .entry)) g 24 25;
+      circles = number (now (s .entry)) g 26 27;
+    } ⌝ }
+{
+    Belts {
+        la2: signed_three(s, g, 18),
+        lo2: signed_three(s, g, 21),
+        di: two(s, g, 24),
+        circles: two(s, g, 26),
+    }
+}
+
+// Octets 18 to 27 of a Lambert or polar stereographic grid.
+fn plane_at(s: &[u8], g: usize) -> Plane
+    ensures { λ r. ⌜ r ≡ record {
+      lov = signedAt (now (s .entry)) g 18 20;
+      dx = number (now (s .entry)) g 21 23;
+      dy = number (now (s .entry)) g 24 26;
+      centre = theOctet (now (s .entry)) g 27;
+    } ⌝ }
+{
+    Plane {
+        lov: signed_three(s, g, 18),
+        dx: three(s, g, 21),
+        dy: three(s, g, 24),
+        centre: octet(s, g, 27),
+    }
+}
+
+// These, and octets 29 to 40 of a Lambert grid.
+fn cone_at(s: &[u8], g: usize) -> Cone
+    ensures { λ r. ⌜ r ≡ record {
+      plane = record {
+        lov = signedAt (now (s .entry)) g 18 20;
+        dx = number (now (s .entry)) g 21 23;
+        dy = number (now (s .entry)) g 24 26;
+        centre = theOctet (now (s .entry)) g 27;
+      };
+      latin1 = signedAt (now (s .entry)) g 29 31;
+      latin2 = signedAt (now (s .entry)) g 32 34;
+      «pole_la» = signedAt (now (s .entry)) g 35 37;
+      «pole_lo» = signedAt (now (s .entry)) g 38 40;
+    } ⌝ }
+{
+    Cone {
+        plane: plane_at(s, g),
+        latin1: signed_three(s, g, 29),
+        latin2: signed_three(s, g, 32),
+        pole_la: signed_three(s, g, 35),
+        pole_lo: signed_three(s, g, 38),
     }
 }
 
@@ -99,14 +182,14 @@ fn start_at(s: &[u8], g: usize) -> Start
     Start::Neither
 }
 
-// The grid of a section of 32 octets.
+// The grid of a section of a latitude/longitude grid.
 fn latlon_at(s: &[u8], g: usize) -> Grid
     ensures { λ r. ⌜ r ≡ gridOfCells latlon (cellsAt (columns latlon) (now (s .entry)) g) ⌝ }
 {
     grid_with(s, g, Geometry::LatLon(edges_at(s, g)))
 }
 
-// The grid of a section of 178 octets.
+// Of a thinned octant.
 fn thinned_at(s: &[u8], g: usize) -> Grid
     ensures { λ r. ⌜ r ≡ gridOfCells thinned (cellsAt (columns thinned) (now (s .entry)) g) ⌝ }
 {
@@ -115,6 +198,34 @@ fn thinned_at(s: &[u8], g: usize) -> Grid
         start: start_at(s, g),
     };
     grid_with(s, g, Geometry::Thinned(octant))
+}
+
+// Of a Mercator grid.
+fn mercator_at(s: &[u8], g: usize) -> Grid
+    ensures { λ r. ⌜ r ≡ gridOfCells mercator (cellsAt (columns mercator) (now (s .entry)) g) ⌝ }
+{
+    grid_with(s, g, Geometry::Mercator(cylinder_at(s, g)))
+}
+
+// Of a Lambert grid.
+fn lambert_at(s: &[u8], g: usize) -> Grid
+    ensures { λ r. ⌜ r ≡ gridOfCells lambert (cellsAt (columns lambert) (now (s .entry)) g) ⌝ }
+{
+    grid_with(s, g, Geometry::Lambert(cone_at(s, g)))
+}
+
+// Of a Gaussian grid.
+fn gaussian_at(s: &[u8], g: usize) -> Grid
+    ensures { λ r. ⌜ r ≡ gridOfCells gaussian (cellsAt (columns gaussian) (now (s .entry)) g) ⌝ }
+{
+    grid_with(s, g, Geometry::Gaussian(belts_at(s, g)))
+}
+
+// Of a polar stereographic grid.
+fn polar_at(s: &[u8], g: usize) -> Grid
+    ensures { λ r. ⌜ r ≡ gridOfCells polar (cellsAt (columns polar) (now (s .entry)) g) ⌝ }
+{
+    grid_with(s, g, Geometry::Polar(plane_at(s, g)))
 }
 
 // Whether the length and octets 4 to 6 of a section are those of a kind.
@@ -139,6 +250,18 @@ fn grid_at(s: &[u8], p: Part) -> Grid
     if admitted(s, p, THINNED_LENGTH, 33, 0) {
         return thinned_at(s, g);
     }
+    if admitted(s, p, LONG_LENGTH, 255, 1) {
+        return mercator_at(s, g);
+    }
+    if admitted(s, p, LONG_LENGTH, 255, 3) {
+        return lambert_at(s, g);
+    }
+    if admitted(s, p, GDS_LENGTH, 255, 4) {
+        return gaussian_at(s, g);
+    }
+    if admitted(s, p, GDS_LENGTH, 255, 5) {
+        return polar_at(s, g);
+    }
     latlon_at(s, g)
 }
 
@@ -156,5 +279,10 @@ pub fn grid_in(s: &[u8], there: bool, p: Part) -> Found
 pub fn gds_bad(s: &[u8], p: Part) -> bool
     ensures { λ r. ⌜ r ≡ gdsBad (now (s .entry)) p ⌝ }
 {
-    !(admitted(s, p, GDS_LENGTH, 255, 0) | admitted(s, p, THINNED_LENGTH, 33, 0))
+    !(admitted(s, p, GDS_LENGTH, 255, 0)
+        | admitted(s, p, THINNED_LENGTH, 33, 0)
+        | admitted(s, p, LONG_LENGTH, 255, 1)
+        | admitted(s, p, LONG_LENGTH, 255, 3)
+        | admitted(s, p, GDS_LENGTH, 255, 4)
+        | admitted(s, p, GDS_LENGTH, 255, 5))
 }

@@ -1,64 +1,42 @@
--- Row 9 by a grid's own geometry, and what it leaves, whatever the kind: signed fields that fit, and points within their
--- bound.
+-- Row 9 by a grid's own geometry, and what it leaves, whatever the kind: cells that their octets hold, and points within
+-- their bound.
 use Prim.Native.Nat.{_*_, _≤_}
-use mathlib.Core.Path.{_≡_, refl, sym, ap, subst, _∙_}
-use mathlib.Core.Bool.{Bool, false}
-use mathlib.Core.List.{_++_}
+use mathlib.Core.Path.{_≡_, refl, sym, ap, _∙_}
+use mathlib.Core.Bool.{false}
 use native.Mathlib.Omega.{arith}
 use borrow.Author.Tests.{ltb-false}
 use lib.Dec.{ltb}
 use Rattle.bits.proofs.Tests.{or-right}
 use Rattle.rules.specs.declared.{Start.Start, Start.the-variants.Equator, Start.the-variants.Pole}
-use Rattle.rules.specs.declared.{Start.the-variants.Neither}
-use Rattle.rules.specs.declared.{Edges.Edges, Octant.Octant, Geometry.Geometry, Geometry.the-variants.LatLon}
-use Rattle.rules.specs.declared.{Geometry.the-variants.Thinned, Grid.Grid}
-use Rattle.rules.specs.Bounds.{octantPoints, pointsMost, latitudeMost, longitudeMost}
+use Rattle.rules.specs.declared.{Start.the-variants.Neither, Shape.Shape, Shape.the-variants.Even}
+use Rattle.rules.specs.declared.{Shape.the-variants.Uneven, Geometry.Geometry, Grid.Grid}
+use Rattle.rules.specs.Bounds.{octantPoints, pointsMost}
 use Rattle.rules.specs.Counts.{total, fromEquator, countsOf}
 use Rattle.rules.specs.Chart.{pointsOn}
 use Rattle.rules.specs.Table.{anyOf}
 use Rattle.rules.specs.Columns.{cellsFaults}
-use Rattle.rules.specs.Grid.{columns, kindOf, cellsBy, shapeBy, shapeOf, pointsOf, edgesOf, kindFaults, gridFaults}
-use Rattle.laws.specs.Signs.{SignFree}
-use Rattle.laws.proofs.Rows.{none-of}
-use Rattle.laws.proofs.Whole.{within}
+use Rattle.rules.specs.Layouts.{columns}
+use Rattle.rules.specs.Grid.{kindOf, cellsBy, cellsOf, shapeBy, shapeOf, pointsOf, scanFaults, shapeFaults, kindFaults}
+use Rattle.rules.specs.Grid.{faultsBy, gridFaults}
+use Rattle.laws.specs.Cells.{CellsTyped, CellsFit}
+use Rattle.laws.proofs.Rows.{NoneOf, none-of, none-parts}
+use Rattle.laws.proofs.Columns.{kind-fits}
 
--- the tests of row 9, of a geometry
-abbrev pub faultsBy : Grid → Geometry → Bool
-faultsBy g x = anyOf (kindFaults g x ++ cellsFaults (columns (kindOf x)) (cellsBy g x))
-
-pub faults-by : (g : Grid) (x : Geometry) → g .geometry ≡ x → anyOf (gridFaults g) ≡ faultsBy g x
+-- the tests of row 9, of the geometry that a grid has
+pub faults-by : (g : Grid) (x : Geometry) → g .geometry ≡ x → anyOf (gridFaults g) ≡ anyOf (faultsBy g x)
 unfolding gridFaults
-faults-by g x e = ap (faultsBy g) e
+faults-by g x e = ap (λ (y : Geometry). anyOf (faultsBy g y)) e
 
--- what 9 leaves of a grid's signed fields
-pub record Small (g : Grid) (x : Edges) : Type 0 where
-  pub la1 : SignFree 3 (g .la1)
-  pub lo1 : SignFree 3 (g .lo1)
-  pub la2 : SignFree 3 (x .la2)
-  pub lo2 : SignFree 3 (x .lo2)
+-- what 9 leaves of a grid's cells, the types of its numbers given: its octets hold them
+cells-by : (g : Grid) (x : Geometry) → anyOf (faultsBy g x) ≡ false → NoneOf (cellsFaults (columns (kindOf x)) (cellsBy g x))
+cells-by g x e = none-parts (kindFaults g x) (cellsFaults (columns (kindOf x)) (cellsBy g x)) (none-of _ e) .1
 
-small-by : (g : Grid) (x : Geometry) → faultsBy g x ≡ false → Small g (edgesOf x)
-unfolding cellsFaults cellsBy
-small-by g (LatLon x) e =
-    let h = none-of _ e .1 .1 .1 .1 in
-    record {
-      la1 = omega (arith, within latitudeMost (g .la1 .value) (h .0));
-      lo1 = omega (arith, within longitudeMost (g .lo1 .value) (h .1 .0));
-      la2 = omega (arith, within latitudeMost (x .la2 .value) (h .1 .1 .0));
-      lo2 = omega (arith, within longitudeMost (x .lo2 .value) (h .1 .1 .1 .0));
-    }
-small-by g (Thinned o) e =
-    let x = o .edges in
-    let h = none-of _ e .1 in
-    record {
-      la1 = omega (arith, within latitudeMost (g .la1 .value) (h .0));
-      lo1 = omega (arith, within longitudeMost (g .lo1 .value) (h .1 .0));
-      la2 = omega (arith, within latitudeMost (x .la2 .value) (h .1 .1 .0));
-      lo2 = omega (arith, within longitudeMost (x .lo2 .value) (h .1 .1 .1 .0));
-    }
+pub cells-sound : (g : Grid) → anyOf (gridFaults g) ≡ false → NoneOf (cellsFaults (columns (kindOf (g .geometry))) (cellsOf g))
+cells-sound g e = cells-by g (g .geometry) (sym (faults-by g (g .geometry) refl) ∙ e)
 
-pub grid-small : (g : Grid) → anyOf (gridFaults g) ≡ false → Small g (edgesOf (g .geometry))
-grid-small g e = small-by g (g .geometry) (sym (faults-by g (g .geometry) refl) ∙ e)
+pub grid-fits : (g : Grid) → CellsTyped (columns (kindOf (g .geometry))) (cellsOf g) → anyOf (gridFaults g) ≡ false
+    → CellsFit (columns (kindOf (g .geometry))) (cellsOf g)
+grid-fits g y e = kind-fits (kindOf (g .geometry)) (cellsOf g) y (cells-sound g e)
 
 -- its points are within their bound
 pub octant-few : (f : Start) → total (countsOf f) ≤ octantPoints
@@ -67,12 +45,18 @@ octant-few Equator = omega arith
 octant-few Pole = omega arith
 octant-few Neither = omega arith
 
-points-by : (g : Grid) (x : Geometry) → faultsBy g x ≡ false → pointsOn (shapeBy g x) ≤ pointsMost
+-- by its shape: the kinds do not enter
+shape-points : (g : Grid) (q : Shape) → NoneOf (shapeFaults g q) → pointsOn q ≤ pointsMost
 unfolding pointsOn
-points-by g (LatLon x) e =
-    let n = g .ni * g .nj in
-    ltb-false pointsMost n (or-right (ltb n 1) (ltb pointsMost n) (none-of _ e .0))
-points-by g (Thinned o) e = omega (arith, octant-few (o .start))
+shape-points g (Even q) h =
+    let n = q .ni * q .nj in
+    ltb-false pointsMost n (or-right (ltb n 1) (ltb pointsMost n) (h .0))
+shape-points g (Uneven u) h = omega (arith, octant-few (u .start))
+
+points-by : (g : Grid) (x : Geometry) → anyOf (faultsBy g x) ≡ false → pointsOn (shapeBy g x) ≤ pointsMost
+points-by g x e =
+    let h = none-parts (kindFaults g x) (cellsFaults (columns (kindOf x)) (cellsBy g x)) (none-of _ e) .0 in
+    shape-points g (shapeBy g x) (none-parts (shapeFaults g (shapeBy g x)) (scanFaults g x) h .0)
 
 pub grid-points : (g : Grid) → anyOf (gridFaults g) ≡ false → pointsOf g ≤ pointsMost
 unfolding shapeOf

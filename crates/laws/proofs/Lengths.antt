@@ -1,7 +1,7 @@
 -- How many octets a grid section and a data section take; by their tables and lists of fields.
 use Prim.Native.Nat.{ℕ, _+_, _-_, _*_}
 use mathlib.Core.Path.{_≡_, refl, ap, _∙_}
-use mathlib.Core.List.{List, [], _∷_}
+use mathlib.Core.List.{List, []}
 use native.Mathlib.Nat.{add-zero}
 use native.Mathlib.Omega.{arith}
 use lib.ListN.{length}
@@ -11,7 +11,8 @@ use Rattle.rules.specs.declared.{Grid.Grid, Packing.Packing, Scale.Scale}
 use Rattle.rules.specs.Bounds.{bdsHead}
 use Rattle.rules.specs.Numbers.{Field, laid, evenFrom}
 use Rattle.rules.specs.Columns.{cellsFields}
-use Rattle.rules.specs.Grid.{columns, lengthBy, kindOf, cellsOf, gdsLengthOf, gridFields, gdsOf}
+use Rattle.rules.specs.Layouts.{columns, lengthBy}
+use Rattle.rules.specs.Grid.{kindOf, cellsOf, gdsLengthOf, gridFields, gdsOf}
 use Rattle.rules.specs.Values.{bdsFields, bdsOf}
 use Rattle.laws.proofs.Fields.{widths, laid-length}
 use Rattle.laws.proofs.Columns.{widths-tile, kind-tiles}

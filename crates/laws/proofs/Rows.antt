@@ -144,3 +144,12 @@ inside least most n e =
 
 pub outside-no : (least most n : ℕ) → least ≤ n → n ≤ most → notWithin least most n ≡ false
 outside-no least most n a b = or-none (ltb n least) (ltb most n) (le-ltb n least a) (le-ltb most n b)
+
+-- tests joined
+pub none-both : (a b : List Bool) → NoneOf a → NoneOf b → NoneOf (a ++ b)
+none-both [] b h k = k
+none-both (t ∷ a) b h k = (h .0, none-both a b (h .1) k)
+
+pub none-parts : (a b : List Bool) → NoneOf (a ++ b) → NoneOf a × NoneOf b
+none-parts [] b h = (tt, h)
+none-parts (t ∷ a) b h = let k = none-parts a b (h .1) in ((h .0, k .0), k .1)

@@ -10,13 +10,11 @@ use crate::lists::summed;
 use crate::lists::values_kept;
 use chart::shape_of;
 use chart::spot_of;
-use kinds::edges_of;
-use kinds::rows_number;
+use kinds::figures_of;
 use libc::STDOUT_FILENO;
 use rules::Bitmap;
 use rules::Charted;
-use rules::Edges;
-use rules::Geometry;
+use rules::Figures;
 use rules::Grid;
 use rules::GridPoint;
 use rules::Header;
@@ -89,22 +87,19 @@ fn moment(t: Moment) {
 }
 
 // Corners, resolution flags, steps and scanning flags of a grid.
-fn corners(g: Grid) {
-    let geometry = g.geometry;
-    let edges = edges_of(geometry);
+fn corners(g: Grid, x: Figures) {
     signed(g.la1);
     signed(g.lo1);
     number(g.flags as u64);
-    signed(edges.la2);
-    signed(edges.lo2);
-    number(edges.di as u64);
-    number(edges.dj as u64);
+    signed(x.la2);
+    signed(x.lo2);
+    number(x.di as u64);
+    number(x.dj as u64);
     number(g.scan as u64);
 }
 
 // Where the counts of a thinned octant begin.
-fn counted(geometry: Geometry) {
-    let rows = rows_number(geometry);
+fn counted(rows: u8) {
     if rows == 1 {
         word(b"equator");
     }
@@ -113,6 +108,49 @@ fn counted(geometry: Geometry) {
     }
     if 2 < rows {
         word(b"neither");
+    }
+}
+
+// The name of a kind, by GDS octet 6.
+fn named(kind: u8) {
+    if kind == 1 {
+        return word(b"mercator");
+    }
+    if kind == 3 {
+        return word(b"lambert");
+    }
+    if kind == 4 {
+        return word(b"gaussian");
+    }
+    if kind == 5 {
+        return word(b"polar");
+    }
+    word(b"other")
+}
+
+// LoV, the latitudes at which a cylinder or a cone cuts the earth, and the southern pole.
+fn angles(x: Figures) {
+    signed(x.lov);
+    signed(x.latin1);
+    signed(x.latin2);
+    signed(x.pole_la);
+    signed(x.pole_lo);
+}
+
+// The projection centre flag and a Gaussian grid's N.
+fn flag_and_circles(centre: u8, circles: u16) {
+    number(centre as u64);
+    number(circles as u64);
+}
+
+// What a grid has that is no latitude/longitude grid, by its kind's name.
+fn projected(x: Figures) {
+    if x.kind != 0 {
+        named(x.kind);
+        whole(x.dx);
+        whole(x.dy);
+        angles(x);
+        flag_and_circles(x.centre, x.circles);
     }
 }
 
@@ -149,6 +187,7 @@ fn sum(values: &[u32], marks: &[u8], n: usize) {
 fn taken(h: Header, values: &[u32], marks: &[u8]) {
     let g = h.grid;
     let geometry = g.geometry;
+    let x = figures_of(geometry);
     let shape = shape_of(g);
     let bitmap = h.bitmap;
     whole(h.points);
@@ -162,8 +201,9 @@ fn taken(h: Header, values: &[u32], marks: &[u8]) {
     octet(h.packing.flags);
     kind(bitmap);
     moment(h.time);
-    corners(g);
-    counted(geometry);
+    corners(g, x);
+    counted(x.rows);
+    projected(x);
     spot(shape, 0);
     spot(shape, 1);
     let n = h.points as usize;
@@ -181,23 +221,36 @@ fn no_time(t: Moment) -> bool {
     (t.year == 0) & (t.month == 0) & (t.day == 0) & (t.hour == 0) & (t.minute == 0)
 }
 
-// Whether a grid's edges are zeros.
-fn no_edges(a: Edges) -> bool {
-    (a.la2.value == 0) & (a.lo2.value == 0) & (a.di == 0) & (a.dj == 0)
+// Whether a geometry is a latitude/longitude grid of zeros.
+fn no_figures(x: Figures) -> bool {
+    (x.kind == 0)
+        & (x.rows == 0)
+        & (x.la2.value == 0)
+        & (x.lo2.value == 0)
+        & (x.di == 0)
+        & (x.dj == 0)
+        & (x.dx == 0)
+        & (x.dy == 0)
+        & (x.lov.value == 0)
+        & (x.latin1.value == 0)
+        & (x.latin2.value == 0)
+        & (x.pole_la.value == 0)
+        & (x.pole_lo.value == 0)
+        & (x.centre == 0)
+        & (x.circles == 0)
 }
 
 // Whether a grid is zeros.
 fn no_grid(g: Grid) -> bool {
     let geometry = g.geometry;
-    let edges = edges_of(geometry);
+    let figures = figures_of(geometry);
     (g.ni == 0)
         & (g.nj == 0)
         & (g.la1.value == 0)
         & (g.lo1.value == 0)
         & (g.flags == 0)
         & (g.scan == 0)
-        & no_edges(edges)
-        & (rows_number(geometry) == 0)
+        & no_figures(figures)
 }
 
 // Whether there is no bitmap.

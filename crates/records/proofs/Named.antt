@@ -9,10 +9,13 @@ use Rattle.rules.specs.declared.{Bitmap.the-variants.Without, Bitmap.the-varian
 use Rattle.rules.specs.Table.{anyOf, orAll}
 use Rattle.rules.specs.declared.{Start.Start, Start.the-variants.Equator, Start.the-variants.Pole}
 use Rattle.rules.specs.declared.{Start.the-variants.Neither, Geometry.Geometry, Geometry.the-variants.LatLon}
-use Rattle.rules.specs.declared.{Geometry.the-variants.Thinned}
+use Rattle.rules.specs.declared.{Geometry.the-variants.Thinned, Geometry.the-variants.Mercator}
+use Rattle.rules.specs.declared.{Geometry.the-variants.Lambert, Geometry.the-variants.Gaussian}
+use Rattle.rules.specs.declared.{Geometry.the-variants.Polar}
 use Rattle.rules.specs.Numbers.{bit}
 use Rattle.rules.specs.Columns.{cellsFaults}
-use Rattle.rules.specs.Grid.{cellsBy, startNumber, rowsNumber, geometryBy, noGrid, theGrid, scanBad, edgesOf, gridFaults}
+use Rattle.rules.specs.Figures.{geometryBy, figuresOf, geometryOf}
+use Rattle.rules.specs.Grid.{gridWith, cellsBy, noGrid, theGrid, scanBad, gridFaults}
 use Rattle.rules.specs.Bitmap.{lentFaults}
 use Rattle.rules.specs.Writing.{storedFaults}
 use Rattle.records.specs.declared.{GridRecord.GridRecord}
@@ -69,29 +72,27 @@ unknown-bitmap kind number lent values marks n l =
     let e : Stored 0 ≡ bitmapBy kind number = bitmap-other kind number (λ q. omega (arith, l, q)) (λ q. omega (arith, l, q)) (λ q. omega (arith, l, q)) in
     rw (sym e, or-true)
 
--- a geometry out of its number and edges
-geometry-back : (x : Geometry) → geometryBy (rowsNumber x) (edgesOf x) ≡ x
-unfolding geometryBy
+-- a geometry out of its figures
+geometry-back : (x : Geometry) → geometryOf (figuresOf x) ≡ x
+unfolding geometryOf geometryBy figuresOf
 geometry-back (LatLon x) = refl
 geometry-back (Thinned o) = by (o .start)
   where
-    by : (f : Start) → geometryBy (startNumber f) (o .edges) ≡ Thinned (record { edges = o .edges; start = f })
+    by : (f : Start)
+        → geometryOf (figuresOf (Thinned (record { edges = o .edges; start = f })))
+        ≡ Thinned (record { edges = o .edges; start = f })
     by Equator = refl
     by Pole = refl
     by Neither = refl
+geometry-back (Mercator x) = refl
+geometry-back (Lambert x) = refl
+geometry-back (Gaussian x) = refl
+geometry-back (Polar x) = refl
 
 pub grid-returns : GridReturns
 unfolding gridBy
 grid-returns g =
-    ap (λ (x : Geometry). Given (record {
-      ni = g .ni;
-      nj = g .nj;
-      la1 = g .la1;
-      lo1 = g .lo1;
-      flags = g .flags;
-      scan = g .scan;
-      geometry = x;
-    }))
+    ap (λ (x : Geometry). Given (gridWith (g .ni) (g .nj) (g .la1) (g .lo1) (g .flags) (g .scan) x))
     (geometry-back (g .geometry))
 
 pub bitmap-returns : BitmapReturns

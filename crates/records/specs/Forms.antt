@@ -6,28 +6,27 @@ use mathlib.Core.Bool.{true, cond}
 use mathlib.Core.List.{List}
 use lib.Dec.{eqb}
 use lib.IntN.{ℤ}
-use Rattle.rules.specs.declared.{Grid.Grid, Found.Found, Found.the-variants.Nothing, Found.the-variants.Given}
+use Rattle.rules.specs.declared.{Figures.Figures, Grid.Grid, Found.Found, Found.the-variants.Nothing, Found.the-variants.Given}
 use Rattle.rules.specs.declared.{Bitmap.Bitmap, Bitmap.the-variants.Without, Bitmap.the-variants.Carried}
 use Rattle.rules.specs.declared.{Bitmap.the-variants.Stored, Form.Form, Scale.Scale}
 use Rattle.rules.specs.Numbers.{plain}
 use Rattle.rules.specs.Table.{anyOf}
-use Rattle.rules.specs.Grid.{geometryBy, noGrid, theGrid, gridFaults}
+use Rattle.rules.specs.Figures.{figures, geometryOf}
+use Rattle.rules.specs.Grid.{gridWith, noGrid, theGrid, gridFaults}
 use Rattle.rules.specs.Bitmap.{Lent}
 use Rattle.rules.specs.Writing.{storedFaults}
 use Rattle.records.specs.declared.{GridRecord.GridRecord}
 use Rattle.records.specs.declared.forms.{FormRecord.FormRecord}
 use Rattle.records.specs.Records.{bitmapKind, bitmapNumber, gridRecord}
 
+abbrev pub figuresBack : GridRecord → Figures
+figuresBack g =
+    figures (g .kind) (g .rows) (plain (g .la2)) (plain (g .lo2)) (g .di) (g .dj) (g .dx) (g .dy) (plain (g .lov))
+    (plain (g .latin1)) (plain (g .latin2)) (plain (g .«pole_la»)) (plain (g .«pole_lo»)) (g .centre) (g .circles)
+
 abbrev pub gridBack : GridRecord → Grid
-gridBack g = record {
-  ni = g .ni;
-  nj = g .nj;
-  la1 = plain (g .la1);
-  lo1 = plain (g .lo1);
-  flags = g .resolution;
-  scan = g .scan;
-  geometry = geometryBy (g .rows) (record { la2 = plain (g .la2); lo2 = plain (g .lo2); di = g .di; dj = g .dj });
-}
+gridBack g =
+    gridWith (g .ni) (g .nj) (plain (g .la1)) (plain (g .lo1)) (g .resolution) (g .scan) (geometryOf (figuresBack g))
 
 -- 0 no grid, 1 the one in the record, any other number a grid of zeros, which 9 refuses
 unfoldable pub gridBy : ℕ → GridRecord → Found

@@ -6,7 +6,7 @@ use Rattle.rules.specs.declared.{Refusal.Refusal, Written.Written, Display.Disp
 use Rattle.rules.specs.declared.{Bitmap.the-variants.Without, Bitmap.the-variants.Carried, Bitmap.the-variants.Stored}
 use Rattle.rules.specs.declared.{Header.Header, Charted.Charted, Charted.the-variants.On, Charted.the-variants.Off}
 use Rattle.rules.specs.declared.{Pointed.Pointed, Pointed.the-variants.At, Pointed.the-variants.Off as Nowhere}
-use Rattle.rules.specs.Grid.{rowsNumber, edgesOf}
+use Rattle.rules.specs.Figures.{figuresOf}
 use Rattle.records.specs.declared.{PartRecord.PartRecord, GridRecord.GridRecord, HeaderRecord.HeaderRecord}
 use Rattle.records.specs.declared.{PlaceRecord.PlaceRecord, PointRecord.PointRecord, DisplayRecord.DisplayRecord}
 use Rattle.records.specs.declared.{WrittenRecord.WrittenRecord, CheckRecord.CheckRecord}
@@ -29,22 +29,32 @@ partBy stored p = record { stored = cond stored 1 0; start = p .start; len = p .
 abbrev pub partRecord : Part → PartRecord
 partRecord p = partBy false p
 
--- how many points each row has is a number: 0 Ni in every row, 1 and 2 an octant's counts, 3 counts that no octant has
+-- a grid of any kind, by its geometry's figures; what its kind does not have is zero
 abbrev pub gridRecord : Grid → GridRecord
 gridRecord g =
-    let x = edgesOf (g .geometry) in
+    let x = figuresOf (g .geometry) in
     record {
       la1 = g .la1 .value;
       lo1 = g .lo1 .value;
       la2 = x .la2 .value;
       lo2 = x .lo2 .value;
+      lov = x .lov .value;
+      latin1 = x .latin1 .value;
+      latin2 = x .latin2 .value;
+      «pole_la» = x .«pole_la» .value;
+      «pole_lo» = x .«pole_lo» .value;
+      dx = x .dx;
+      dy = x .dy;
       ni = g .ni;
       nj = g .nj;
       di = x .di;
       dj = x .dj;
+      circles = x .circles;
       resolution = g .flags;
       scan = g .scan;
-      rows = rowsNumber (g .geometry);
+      rows = x .rows;
+      kind = x .kind;
+      centre = x .centre;
     }
 
 abbrev pub headerRecord : Header → HeaderRecord

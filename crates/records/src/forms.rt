@@ -1,12 +1,12 @@
 // The record that comes in from C: what writer and packer are to choose. Any numbers in it stand for a form; a kind
 // that has no name for one that the writer refuses.
 ghost use mathlib.Core.Path.{_≡_};
-ghost use Rattle.records.specs.Forms.{gridBack, gridBy, bitmapBy, formBy, scaleBy};
+ghost use Rattle.records.specs.Forms.{figuresBack, gridBack, gridBy, bitmapBy, formBy, scaleBy};
 use crate::GridRecord;
-use kinds::geometry_by;
+use kinds::geometry_of;
 use octets::plain;
 use rules::Bitmap;
-use rules::Edges;
+use rules::Figures;
 use rules::Form;
 use rules::Found;
 use rules::Grid;
@@ -23,16 +23,33 @@ pub struct FormRecord {
     pub bits: u8,
 }
 
-// The grid that a record stands for.
-pub fn grid_back(g: GridRecord) -> Grid
-    ensures { λ r. ⌜ r ≡ gridBack g ⌝ }
+// The geometry that a record stands for, in figures.
+fn figures_back(g: GridRecord) -> Figures
+    ensures { λ r. ⌜ r ≡ figuresBack g ⌝ }
 {
-    let edges = Edges {
+    Figures {
+        kind: g.kind,
+        rows: g.rows,
         la2: plain(g.la2),
         lo2: plain(g.lo2),
         di: g.di,
         dj: g.dj,
-    };
+        dx: g.dx,
+        dy: g.dy,
+        lov: plain(g.lov),
+        latin1: plain(g.latin1),
+        latin2: plain(g.latin2),
+        pole_la: plain(g.pole_la),
+        pole_lo: plain(g.pole_lo),
+        centre: g.centre,
+        circles: g.circles,
+    }
+}
+
+// The grid that a record stands for.
+pub fn grid_back(g: GridRecord) -> Grid
+    ensures { λ r. ⌜ r ≡ gridBack g ⌝ }
+{
     Grid {
         ni: g.ni,
         nj: g.nj,
@@ -40,7 +57,7 @@ pub fn grid_back(g: GridRecord) -> Grid
         lo1: plain(g.lo1),
         flags: g.resolution,
         scan: g.scan,
-        geometry: geometry_by(g.rows, edges),
+        geometry: geometry_of(figures_back(g)),
     }
 }
 

@@ -10,8 +10,7 @@ pub use forms::FormRecord;
 pub use forms::form_by;
 pub use forms::grid_back;
 pub use forms::scale_by;
-use kinds::edges_of;
-use kinds::rows_number;
+use kinds::figures_of;
 use rules::Bitmap;
 use rules::Charted;
 use rules::Display;
@@ -31,19 +30,30 @@ pub struct PartRecord {
     pub len: u32,
 }
 
+// A grid of any kind; what its kind does not have is zero.
 #[repr(C)]
 pub struct GridRecord {
     pub la1: i32,
     pub lo1: i32,
     pub la2: i32,
     pub lo2: i32,
+    pub lov: i32,
+    pub latin1: i32,
+    pub latin2: i32,
+    pub pole_la: i32,
+    pub pole_lo: i32,
+    pub dx: u32,
+    pub dy: u32,
     pub ni: u16,
     pub nj: u16,
     pub di: u16,
     pub dj: u16,
+    pub circles: u16,
     pub resolution: u8,
     pub scan: u8,
     pub rows: u8,
+    pub kind: u8,
+    pub centre: u8,
 }
 
 #[repr(C)]
@@ -152,19 +162,29 @@ fn grid_record(g: Grid) -> GridRecord
     ensures { λ r. ⌜ r ≡ gridRecord g ⌝ }
 {
     let a = g.geometry;
-    let x = edges_of(a);
+    let x = figures_of(a);
     GridRecord {
         la1: value(g.la1),
         lo1: value(g.lo1),
         la2: value(x.la2),
         lo2: value(x.lo2),
+        lov: value(x.lov),
+        latin1: value(x.latin1),
+        latin2: value(x.latin2),
+        pole_la: value(x.pole_la),
+        pole_lo: value(x.pole_lo),
+        dx: x.dx,
+        dy: x.dy,
         ni: g.ni,
         nj: g.nj,
         di: x.di,
         dj: x.dj,
+        circles: x.circles,
         resolution: g.flags,
         scan: g.scan,
-        rows: rows_number(a),
+        rows: x.rows,
+        kind: x.kind,
+        centre: x.centre,
     }
 }
 

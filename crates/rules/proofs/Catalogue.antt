@@ -8,7 +8,8 @@ use lib.Dec.{eqb}
 use lib.IntN.{natAbs, _-ℤ_}
 use Rattle.rules.specs.declared.{Entry.Entry}
 use Rattle.rules.specs.Table.{anyOf}
-use Rattle.rules.specs.Grid.{edgesOf, rectangles, catalogue, pointsOf, gridFaults}
+use Rattle.rules.specs.Figures.{figuresOf}
+use Rattle.rules.specs.Grid.{rectangles, catalogue, pointsOf, gridFaults}
 use Rattle.rules.proofs.Computes.{computes}
 
 -- of document 01's seven: Ni − 1 steps of Di lead from Lo1 to Lo2, and of all: Nj − 1 steps of Dj from La1 to La2, and
@@ -16,13 +17,13 @@ use Rattle.rules.proofs.Computes.{computes}
 alongRows : Entry → Bool
 alongRows e =
     let g = e .grid in
-    let x = edgesOf (g .geometry) in
+    let x = figuresOf (g .geometry) in
     eqb ((g .ni - 1) * x .di) (natAbs (x .lo2 .value -ℤ g .lo1 .value))
 
 sensible : Entry → Bool
 sensible e =
     let g = e .grid in
-    let x = edgesOf (g .geometry) in
+    let x = figuresOf (g .geometry) in
     eqb ((g .nj - 1) * x .dj) (natAbs (x .la2 .value -ℤ g .la1 .value)) && not (anyOf (gridFaults g))
 
 all-along : map alongRows rectangles ≡ true ∷ true ∷ true ∷ true ∷ true ∷ true ∷ true ∷ []

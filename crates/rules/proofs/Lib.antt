@@ -6,5 +6,6 @@ pub mod Stops
 pub mod Years
 pub mod Absent
 pub mod Octants
+pub mod Projections
 pub mod Misreadings
 pub mod Catalogue

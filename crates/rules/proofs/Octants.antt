@@ -6,7 +6,7 @@ use mathlib.Core.List.{List, [], _∷_, map}
 use Prim.Native.Nat.{ℕ}
 use lib.IntN.{pos}
 use lib.ListN.{length, set}
-use Rattle.rules.specs.declared.{Part.Part, Grid.Grid, Found.the-variants.Given, Start.the-variants.Equator}
+use Rattle.rules.specs.declared.{Part.Part, Grid.Grid, Start.the-variants.Equator}
 use Rattle.rules.specs.declared.{Start.the-variants.Pole, Start.the-variants.Neither}
 use Rattle.rules.specs.declared.{Charted.the-variants.On, Charted.the-variants.Off}
 use Rattle.rules.specs.declared.{Pointed.the-variants.At, Pointed.the-variants.Off as Nowhere}
@@ -15,8 +15,8 @@ use Rattle.rules.specs.Numbers.{plain}
 use Rattle.rules.specs.Counts.{total, countsOf}
 use Rattle.rules.specs.Table.{anyOf}
 use Rattle.rules.specs.Chart.{charted, pointed, rowLong}
-use Rattle.rules.specs.Grid.{gdsBad, gridAt, gdsOf, gridStains, shapeOf, catalogue, lookup, theGrid}
-use Rattle.rules.specs.Grid.{edgesOf, gridFaults}
+use Rattle.rules.specs.Figures.{figuresOf}
+use Rattle.rules.specs.Grid.{gdsBad, gridAt, gdsOf, gridStains, shapeOf, catalogue, lookup, theGrid, gridFaults}
 use Rattle.rules.proofs.Computes.{computes}
 
 -- "73 rows and 3,447 points", either way round
@@ -33,7 +33,7 @@ abbrev of : ℕ → Grid
 of n = theGrid (lookup catalogue n)
 
 -- each octant begins where the one before it ends, round either half of the globe, the first of them at 330,000
-round : map (λ n. edgesOf (of n .geometry) .lo2) (40 ∷ 37 ∷ 38 ∷ 39 ∷ 44 ∷ 41 ∷ 42 ∷ 43 ∷ [])
+round : map (λ n. figuresOf (of n .geometry) .lo2) (40 ∷ 37 ∷ 38 ∷ 39 ∷ 44 ∷ 41 ∷ 42 ∷ 43 ∷ [])
     ≡ map (λ n. of n .lo1) (37 ∷ 38 ∷ 39 ∷ 40 ∷ 41 ∷ 42 ∷ 43 ∷ 44 ∷ [])
 unfolding computes
 round = refl

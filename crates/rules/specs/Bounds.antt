@@ -20,9 +20,12 @@ pdsMost = 1024
 abbrev pub gdsLeast : ℕ
 gdsLeast = 32
 
--- "GDS: length 1-3 is 32"; document 02, R-1: "The GDS is 178 octets"
+-- "GDS: length 1-3 is 32"; document 02, R-4: "GDS 42 octets for the first two, else 32"; R-1: "The GDS is 178 octets"
 abbrev pub gdsLength : ℕ
 gdsLength = 32
+
+abbrev pub longLength : ℕ
+longLength = 42
 
 abbrev pub thinnedLength : ℕ
 thinnedLength = 178

@@ -1,4 +1,5 @@
--- Document 01, "GDS", the catalogue, and refusals 7 to 9; document 02, R-1, the thinned octants.
+-- Document 01, "GDS", the catalogue, and refusals 7 to 9; document 02, R-1, the thinned octants, and R-4, "Mercator,
+-- Lambert, Gaussian and polar stereographic grids".
 use Prim.Native.Nat.{ℕ, zero, suc, _+_, _*_}
 use mathlib.Core.Bool.{Bool, true, false, not, _&&_, _||_, cond}
 use mathlib.Core.List.{List, [], _∷_, _++_, map}
@@ -7,67 +8,25 @@ use lib.IntN.{ℤ, pos, negsuc}
 use lib.Signed.{ltZ}
 use Rattle.rules.specs.declared.{Signed.Signed, Part.Part, Start.Start, Start.the-variants.Equator}
 use Rattle.rules.specs.declared.{Start.the-variants.Pole, Start.the-variants.Neither, Shape.Shape}
-use Rattle.rules.specs.declared.{Shape.the-variants.Even, Shape.the-variants.Uneven, Edges.Edges, Octant.Octant}
-use Rattle.rules.specs.declared.{Geometry.Geometry, Geometry.the-variants.LatLon, Geometry.the-variants.Thinned}
+use Rattle.rules.specs.declared.{Shape.the-variants.Even, Shape.the-variants.Uneven, Edges.Edges}
+use Rattle.rules.specs.declared.{Plane.Plane, Geometry.Geometry}
+use Rattle.rules.specs.declared.{Geometry.the-variants.LatLon, Geometry.the-variants.Thinned}
+use Rattle.rules.specs.declared.{Geometry.the-variants.Mercator, Geometry.the-variants.Lambert}
+use Rattle.rules.specs.declared.{Geometry.the-variants.Gaussian, Geometry.the-variants.Polar, Figures.Figures}
 use Rattle.rules.specs.declared.{Grid.Grid, Entry.Entry, Found.Found, Found.the-variants.Nothing}
 use Rattle.rules.specs.declared.{Found.the-variants.Given}
-use Rattle.rules.specs.Bounds.{gdsLength, thinnedLength, octantRows, pointsMost}
+use Rattle.rules.specs.Bounds.{octantRows, pointsMost}
 use Rattle.rules.specs.Counts.{countsOf}
 use Rattle.rules.specs.Chart.{north, pointsOn}
 use Rattle.rules.specs.Numbers.{Field, field, laid, octet, plain, notWithin}
 use Rattle.rules.specs.Table.{anyOf}
-use Rattle.rules.specs.Columns.{Sort, carried, side, latitude, longitude, reserved, Column, column, Cells}
-use Rattle.rules.specs.Columns.{cellsAt, cellsFields, cellsFaults, cellsStains}
+use Rattle.rules.specs.Columns.{Cells, cellsAt, cellsFields, cellsFaults, cellsStains}
+use Rattle.rules.specs.Layouts.{Kind, latlon, thinned, mercator, lambert, gaussian, polar, countColumns}
+use Rattle.rules.specs.Layouts.{coneColumns, columns, lengthBy, fifth, sixth, kinds}
+use Rattle.rules.specs.Figures.{geometryBy, figuresOf}
 
--- the kinds of grid: each has a table of columns, a length, and octets 5 and 6
-pub data Kind : Type 0 where
-  latlon thinned : Kind
-
--- R-1: "octets 33-178 list the row counts": so many counts of two octets each, from octet k on
-abbrev pub countColumns : ℕ → ℕ → List Column
-countColumns k zero = []
-countColumns k (suc rows) = column k 2 carried ∷ countColumns (k + 2) rows
-
--- "Ni 7-8; Nj 9-10; La1 11-13; Lo1 14-16; resolution flags 17; La2 18-20; Lo2 21-23; Di 24-25; Dj 26-27; scanning flags
--- 28; 29-32 reserved", Ni and Nj of a sort, and further columns
-abbrev pub columnsBy : Sort → List Column → List Column
-columnsBy t more =
-    column 7 2 t
-    ∷ column 9 2 t
-    ∷ column 11 3 latitude
-    ∷ column 14 3 longitude
-    ∷ column 17 1 carried
-    ∷ column 18 3 latitude
-    ∷ column 21 3 longitude
-    ∷ column 24 2 carried
-    ∷ column 26 2 carried
-    ∷ column 28 1 carried
-    ∷ column 29 4 reserved
-    ∷ more
-
-abbrev pub columns : Kind → List Column
-columns latlon = columnsBy side []
-columns thinned = columnsBy carried (countColumns 33 octantRows)
-
--- "length 1-3 is 32", "The GDS is 178 octets"
-abbrev pub lengthBy : Kind → ℕ
-lengthBy latlon = gdsLength
-lengthBy thinned = thinnedLength
-
--- "octet 5 is 255", "octet 5 is 33": where the counts begin, if there are any
-abbrev pub fifth : Kind → ℕ
-fifth latlon = 255
-fifth thinned = 33
-
--- "octet 6 is 0"
-abbrev pub sixth : Kind → ℕ
-sixth latlon = 0
-sixth thinned = 0
-
-abbrev pub kinds : List Kind
-kinds = latlon ∷ thinned ∷ []
-
--- 8: "GDS length or octets 4 to 6 not as above", and "8 admits this length and octet 5"; octet 4 is 0 in all
+-- 8: "GDS length or octets 4 to 6 not as above", "8 admits this length and octet 5", "8 names the accepted types and
+-- lengths"; octet 4 is 0 in all
 abbrev pub admits : List ℕ → Part → Kind → Bool
 admits s p k =
     eqb (p .len) (lengthBy k)
@@ -106,46 +65,64 @@ unfoldable pub startOf : List ℕ → Start
 startOf counts =
     cond (sameCounts counts (countsOf Equator)) Equator (cond (sameCounts counts (countsOf Pole)) Pole Neither)
 
--- the grid whose section holds these cells
+-- what every kind has in the same octets, and a geometry
+abbrev pub gridWith : (ni nj : ℕ) (la1 lo1 : Signed) (flags scan : ℕ) → Geometry → Grid
+gridWith ni nj la1 lo1 flags scan x =
+    record { ni = ni; nj = nj; la1 = la1; lo1 = lo1; flags = flags; scan = scan; geometry = x }
+
+-- the grid whose section holds these cells, column by column
 unfoldable pub gridOfCells : (k : Kind) → Cells (columns k) → Grid
 gridOfCells latlon x =
     let (ni, (nj, (la1, (lo1, (flags, (la2, (lo2, (di, (dj, (scan, rest)))))))))) = x in
-    record {
-      ni = ni;
-      nj = nj;
-      la1 = la1;
-      lo1 = lo1;
-      flags = flags;
-      scan = scan;
-      geometry = LatLon (record { la2 = la2; lo2 = lo2; di = di; dj = dj });
-    }
+    gridWith ni nj la1 lo1 flags scan (LatLon (record { la2 = la2; lo2 = lo2; di = di; dj = dj }))
 gridOfCells thinned x =
     let (ni, (nj, (la1, (lo1, (flags, (la2, (lo2, (di, (dj, (scan, (none, counts))))))))))) = x in
-    record {
-      ni = ni;
-      nj = nj;
-      la1 = la1;
-      lo1 = lo1;
-      flags = flags;
-      scan = scan;
-      geometry = Thinned (record {
-        edges = record { la2 = la2; lo2 = lo2; di = di; dj = dj };
-        start = startOf (countsHeld 33 octantRows counts);
-      });
-    }
+    let edges : Edges = record { la2 = la2; lo2 = lo2; di = di; dj = dj } in
+    let start = startOf (countsHeld 33 octantRows counts) in
+    gridWith ni nj la1 lo1 flags scan (Thinned (record { edges = edges; start = start }))
+gridOfCells mercator x =
+    let (ni, (nj, (la1, (lo1, (flags, (la2, (lo2, (latin, (none, (scan, (di, (dj, rest)))))))))))) = x in
+    gridWith ni nj la1 lo1 flags scan (Mercator (record { la2 = la2; lo2 = lo2; latin = latin; di = di; dj = dj }))
+gridOfCells lambert x =
+    let (ni, (nj, (la1, (lo1, (flags, (lov, (dx, (dy, (centre, (scan, own)))))))))) = x in
+    let (latin1, (latin2, (la, (lo, rest)))) = own in
+    let plane : Plane = record { lov = lov; dx = dx; dy = dy; centre = centre } in
+    gridWith ni nj la1 lo1 flags scan
+    (Lambert (record { plane = plane; latin1 = latin1; latin2 = latin2; «pole_la» = la; «pole_lo» = lo }))
+gridOfCells gaussian x =
+    let (ni, (nj, (la1, (lo1, (flags, (la2, (lo2, (di, (circles, (scan, rest)))))))))) = x in
+    gridWith ni nj la1 lo1 flags scan (Gaussian (record { la2 = la2; lo2 = lo2; di = di; circles = circles }))
+gridOfCells polar x =
+    let (ni, (nj, (la1, (lo1, (flags, (lov, (dx, (dy, (centre, (scan, rest)))))))))) = x in
+    gridWith ni nj la1 lo1 flags scan (Polar (record { lov = lov; dx = dx; dy = dy; centre = centre }))
 
 -- and back
 abbrev pub kindOf : Geometry → Kind
 kindOf (LatLon x) = latlon
 kindOf (Thinned x) = thinned
+kindOf (Mercator x) = mercator
+kindOf (Lambert x) = lambert
+kindOf (Gaussian x) = gaussian
+kindOf (Polar x) = polar
+
+-- octets 7 to 17, and what follows
+abbrev pub frontCells : {C : Type 0} → Grid → C → ℕ × (ℕ × (Signed × (Signed × (ℕ × C))))
+frontCells g own = (g .ni, (g .nj, (g .la1, (g .lo1, (g .flags, own)))))
 
 unfoldable pub cellsBy : Grid → (x : Geometry) → Cells (columns (kindOf x))
-cellsBy g (LatLon x) =
-    (g .ni, (g .nj, (g .la1, (g .lo1, (g .flags, (x .la2, (x .lo2, (x .di, (x .dj, (g .scan, (tt, tt)))))))))))
+cellsBy g (LatLon x) = frontCells g (x .la2, (x .lo2, (x .di, (x .dj, (g .scan, (tt, tt))))))
 cellsBy g (Thinned o) =
     let x = o .edges in
     let counts = countCells 33 octantRows (countsOf (o .start)) in
-    (g .ni, (g .nj, (g .la1, (g .lo1, (g .flags, (x .la2, (x .lo2, (x .di, (x .dj, (g .scan, (tt, counts)))))))))))
+    frontCells g (x .la2, (x .lo2, (x .di, (x .dj, (g .scan, (tt, counts))))))
+cellsBy g (Mercator x) =
+    frontCells g (x .la2, (x .lo2, (x .latin, (tt, (g .scan, (x .di, (x .dj, (tt, tt))))))))
+cellsBy g (Lambert x) =
+    let q = x .plane in
+    let own : Cells coneColumns = (x .latin1, (x .latin2, (x .«pole_la», (x .«pole_lo», (tt, tt))))) in
+    frontCells g (q .lov, (q .dx, (q .dy, (q .centre, (g .scan, own)))))
+cellsBy g (Gaussian x) = frontCells g (x .la2, (x .lo2, (x .di, (x .circles, (g .scan, (tt, tt))))))
+cellsBy g (Polar q) = frontCells g (q .lov, (q .dx, (q .dy, (q .centre, (g .scan, (tt, tt))))))
 
 abbrev pub cellsOf : (g : Grid) → Cells (columns (kindOf (g .geometry)))
 cellsOf g = cellsBy g (g .geometry)
@@ -162,9 +139,11 @@ gdsLengthOf g = lengthBy (kindOf (g .geometry))
 abbrev pub headFields : Kind → List Field → List Field
 headFields k rest = field 3 (lengthBy k) ∷ field 1 0 ∷ field 1 (fifth k) ∷ field 1 (sixth k) ∷ rest
 
+abbrev pub fieldsBy : Grid → Geometry → List Field
+fieldsBy g x = headFields (kindOf x) (cellsFields (columns (kindOf x)) (cellsBy g x))
+
 unfoldable pub gridFields : Grid → List Field
-gridFields g =
-    headFields (kindOf (g .geometry)) (cellsFields (columns (kindOf (g .geometry))) (cellsOf g))
+gridFields g = fieldsBy g (g .geometry)
 
 unfoldable pub gdsOf : Grid → List ℕ
 gdsOf g = laid (gridFields g) []
@@ -173,10 +152,18 @@ gdsOf g = laid (gridFields g) []
 unfoldable pub gridStains : List ℕ → Part → List Bool
 gridStains s p = cellsStains (columns (kindAt s p)) s (p .start)
 
--- how a grid's points lie
+-- how a grid's points lie; R-4: "The facts about scanning and points are proved once over all grid kinds": of all kinds
+-- whose rows are not thinned it is the same function of Ni, Nj and the scanning flags
+abbrev pub rectangleOf : Grid → Shape
+rectangleOf g = Even (record { ni = g .ni; nj = g .nj; scan = g .scan })
+
 abbrev pub shapeBy : Grid → Geometry → Shape
-shapeBy g (LatLon x) = Even (record { ni = g .ni; nj = g .nj; scan = g .scan })
+shapeBy g (LatLon x) = rectangleOf g
 shapeBy g (Thinned o) = Uneven (record { start = o .start; scan = g .scan })
+shapeBy g (Mercator x) = rectangleOf g
+shapeBy g (Lambert x) = rectangleOf g
+shapeBy g (Gaussian x) = rectangleOf g
+shapeBy g (Polar x) = rectangleOf g
 
 unfoldable pub shapeOf : Grid → Shape
 shapeOf g = shapeBy g (g .geometry)
@@ -184,23 +171,6 @@ shapeOf g = shapeBy g (g .geometry)
 -- n
 abbrev pub pointsOf : Grid → ℕ
 pointsOf g = pointsOn (shapeOf g)
-
--- how many points each row of a grid has, as a number: 0 Ni in every row, 1 an octant's counts from the equator, 2 from
--- the pole, 3 counts that no octant has; and the geometry of such a number, another one counting as 3
-abbrev pub startNumber : Start → ℕ
-startNumber Equator = 1
-startNumber Pole = 2
-startNumber Neither = 3
-
-abbrev pub rowsNumber : Geometry → ℕ
-rowsNumber (LatLon x) = 0
-rowsNumber (Thinned o) = startNumber (o .start)
-
-abbrev pub startBy : ℕ → Start
-startBy rows = cond (eqb rows 1) Equator (cond (eqb rows 2) Pole Neither)
-
-unfoldable pub geometryBy : ℕ → Edges → Geometry
-geometryBy rows x = cond (eqb rows 0) (LatLon x) (Thinned (record { edges = x; start = startBy rows }))
 
 -- the catalogue: "resolution flags are 128, our own setting"
 abbrev pub entry : ℕ → ℕ → ℕ → ℤ → ℤ → ℤ → ℤ → ℕ → ℕ → ℕ → ℕ → Entry
@@ -291,25 +261,34 @@ scanBad nj scan la1 la2 =
 abbrev pub apart : Signed → Signed → Bool
 apart a b = ltZ (a .value) (b .value) || ltZ (b .value) (a .value)
 
-abbrev pub edgesOf : Geometry → Edges
-edgesOf (LatLon x) = x
-edgesOf (Thinned o) = o .edges
+unfoldable pub figuresDiffer : Figures → Figures → List Bool
+figuresDiffer x y =
+    not (eqb (x .kind) (y .kind))
+    ∷ not (eqb (x .rows) (y .rows))
+    ∷ apart (x .la2) (y .la2)
+    ∷ apart (x .lo2) (y .lo2)
+    ∷ not (eqb (x .di) (y .di))
+    ∷ not (eqb (x .dj) (y .dj))
+    ∷ not (eqb (x .dx) (y .dx))
+    ∷ not (eqb (x .dy) (y .dy))
+    ∷ apart (x .lov) (y .lov)
+    ∷ apart (x .latin1) (y .latin1)
+    ∷ apart (x .latin2) (y .latin2)
+    ∷ apart (x .«pole_la») (y .«pole_la»)
+    ∷ apart (x .«pole_lo») (y .«pole_lo»)
+    ∷ not (eqb (x .centre) (y .centre))
+    ∷ not (eqb (x .circles) (y .circles))
+    ∷ []
 
 unfoldable pub gridDiffers : Grid → Grid → List Bool
 gridDiffers g o =
-    let x = edgesOf (g .geometry) in
-    let y = edgesOf (o .geometry) in
     not (eqb (g .ni) (o .ni))
     ∷ not (eqb (g .nj) (o .nj))
     ∷ apart (g .la1) (o .la1)
     ∷ apart (g .lo1) (o .lo1)
     ∷ not (eqb (g .flags) (o .flags))
     ∷ not (eqb (g .scan) (o .scan))
-    ∷ apart (x .la2) (y .la2)
-    ∷ apart (x .lo2) (y .lo2)
-    ∷ not (eqb (x .di) (y .di))
-    ∷ not (eqb (x .dj) (y .dj))
-    ∷ not (eqb (rowsNumber (g .geometry)) (rowsNumber (o .geometry)))
+    ∷ anyOf (figuresDiffer (figuresOf (g .geometry)) (figuresOf (o .geometry)))
     ∷ []
 
 abbrev pub sameGrid : Grid → Grid → Bool
@@ -319,13 +298,29 @@ unfoldable pub likeOne : List Entry → Grid → Bool
 likeOne [] g = false
 likeOne (e ∷ es) g = sameGrid g (e .grid) || likeOne es g
 
--- 9, of a grid as a whole: "n .. or the scan test outside the rules"; R-1: "a thinned GDS that isn't by value one of
--- the eight .. is 9"
-abbrev pub kindFaults : Grid → Geometry → List Bool
-kindFaults g (LatLon x) =
-    notWithin 1 pointsMost (g .ni * g .nj) ∷ scanBad (g .nj) (g .scan) (g .la1) (x .la2) ∷ []
-kindFaults g (Thinned o) = not (likeOne octants g) ∷ []
+-- R-4: "The scan test against latitudes holds for Mercator and Gaussian only; on the other two, chart row 0 is the
+-- greatest y"; of a thinned grid the next rule decides
+abbrev pub scanFaults : Grid → Geometry → List Bool
+scanFaults g (LatLon x) = scanBad (g .nj) (g .scan) (g .la1) (x .la2) ∷ []
+scanFaults g (Thinned o) = []
+scanFaults g (Mercator x) = scanBad (g .nj) (g .scan) (g .la1) (x .la2) ∷ []
+scanFaults g (Lambert x) = []
+scanFaults g (Gaussian x) = scanBad (g .nj) (g .scan) (g .la1) (x .la2) ∷ []
+scanFaults g (Polar x) = []
 
--- 9: "Ni, Nj, n, a latitude, a longitude or the scan test outside the rules"
+-- 9, of how a grid's points lie: "n .. outside the rules"; R-1: "a thinned GDS that isn't by value one of the eight ..
+-- is 9"
+abbrev pub shapeFaults : Grid → Shape → List Bool
+shapeFaults g (Even q) = notWithin 1 pointsMost (q .ni * q .nj) ∷ []
+shapeFaults g (Uneven u) = not (likeOne octants g) ∷ []
+
+-- and of a grid as a whole
+abbrev pub kindFaults : Grid → Geometry → List Bool
+kindFaults g x = shapeFaults g (shapeBy g x) ++ scanFaults g x
+
+-- 9: "Ni, Nj, n, a latitude, a longitude or the scan test outside the rules", by a geometry and of a grid
+abbrev pub faultsBy : Grid → Geometry → List Bool
+faultsBy g x = kindFaults g x ++ cellsFaults (columns (kindOf x)) (cellsBy g x)
+
 unfoldable pub gridFaults : Grid → List Bool
-gridFaults g = kindFaults g (g .geometry) ++ cellsFaults (columns (kindOf (g .geometry))) (cellsOf g)
+gridFaults g = faultsBy g (g .geometry)

@@ -1,4 +1,4 @@
--- The meaning of document 01, a file for each of its parts, in its order, with R-1 to R-3 of document 02 where they
+-- The meaning of document 01, a file for each of its parts, in its order, with R-1 to R-4 of document 02 where they
 -- amend them.
 -- How names end (docs/GLOSSARY.md has the exceptions). At: read at a place of the octets, or at a point. In: what a
 -- message says, of its octets and the lent bitmap. Of: the answer of a public function (headerOf, writeOf), or of one
@@ -16,6 +16,8 @@ pub mod Time
 pub mod Counts
 pub mod Chart
 pub mod Columns
+pub mod Layouts
+pub mod Figures
 pub mod Grid
 pub mod Bitmap
 pub mod Points

@@ -21,8 +21,10 @@ pub const BMS_HEAD: u32 = 6;
 
 pub const BDS_HEAD: u32 = 11;
 
-// "GDS: length 1-3 is 32"; of a thinned octant "178 octets".
+// "GDS: length 1-3 is 32"; of a Mercator or Lambert grid 42, and of a thinned octant "178 octets".
 pub const GDS_LENGTH: u32 = 32;
+
+pub const LONG_LENGTH: u32 = 42;
 
 pub const THINNED_LENGTH: u32 = 178;
 
@@ -40,6 +42,9 @@ pub const POINTS_MOST: u32 = 65536;
 pub const LATITUDE_MOST: i32 = 90000;
 
 pub const LONGITUDE_MOST: i32 = 360000;
+
+// What three octets hold at most.
+pub const DISTANCE_MOST: u32 = 16777215;
 
 // Bits per value N.
 pub const BITS_MOST: u8 = 24;

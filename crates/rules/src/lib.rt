@@ -1,4 +1,4 @@
-// The records that every part of the codec shares, and, in specs/, what document 01 means, as R-1 to R-3 of document
+// The records that every part of the codec shares, and, in specs/, what document 01 means, as R-1 to R-4 of document
 // 02 amend it. All records go by value; a refused answer has zero in every other field.
 
 pub mod bounds;
@@ -80,10 +80,69 @@ pub struct Octant {
     pub start: Start,
 }
 
+// Where a Mercator grid ends, the latitude at which its cylinder cuts the earth, and its steps in metres.
+pub struct Cylinder {
+    pub la2: Signed,
+    pub lo2: Signed,
+    pub latin: Signed,
+    pub di: u32,
+    pub dj: u32,
+}
+
+// Where a Gaussian grid ends, its step, and N, the latitude circles between a pole and the equator.
+pub struct Belts {
+    pub la2: Signed,
+    pub lo2: Signed,
+    pub di: u16,
+    pub circles: u16,
+}
+
+// A plane of projection: the meridian that is parallel to its y-axis (LoV), its steps in metres (Dx, Dy), and the
+// projection centre flag. All that a polar stereographic grid has of its own.
+pub struct Plane {
+    pub lov: Signed,
+    pub dx: u32,
+    pub dy: u32,
+    pub centre: u8,
+}
+
+// A Lambert cone: such a plane, the two latitudes at which the cone cuts the earth, and its southern pole.
+pub struct Cone {
+    pub plane: Plane,
+    pub latin1: Signed,
+    pub latin2: Signed,
+    pub pole_la: Signed,
+    pub pole_lo: Signed,
+}
+
 // What only its own kind of grid has.
 pub enum Geometry {
     LatLon(Edges),
     Thinned(Octant),
+    Mercator(Cylinder),
+    Lambert(Cone),
+    Gaussian(Belts),
+    Polar(Plane),
+}
+
+// A geometry in figures, as faces, tables and files hold it: which kind it is (GDS octet 6), how its rows are counted,
+// and a place for whatever some kind has. What a kind does not have is zero.
+pub struct Figures {
+    pub kind: u8,
+    pub rows: u8,
+    pub la2: Signed,
+    pub lo2: Signed,
+    pub di: u16,
+    pub dj: u16,
+    pub dx: u32,
+    pub dy: u32,
+    pub lov: Signed,
+    pub latin1: Signed,
+    pub latin2: Signed,
+    pub pole_la: Signed,
+    pub pole_lo: Signed,
+    pub centre: u8,
+    pub circles: u16,
 }
 
 // A grid: what every kind has in the same octets of its GDS, and its geometry.
@@ -175,7 +234,8 @@ pub struct Display {
 // A grid point, numbered in message order from 0.
 pub struct GridPoint(pub u32);
 
-// A place of the chart: row 0 is north, column 0 is west.
+// A place of the chart: row 0 is north, or where a kind has no latitudes to go by the greatest y; column 0 is west, or
+// the least x.
 pub struct Spot {
     pub row: u32,
     pub column: u32,

@@ -10,6 +10,7 @@ use lib.Dec.{eqb, lit<}
 use lib.ListN.{set, getD}
 use Rattle.rules.specs.declared.{Refusal.Refusal, Places.Places, Form.Form}
 use Rattle.rules.specs.Table.{refusal}
+use Rattle.rules.specs.Grid.{cellsBy}
 use Rattle.rules.proofs.Computes.{computes, specimen, nothing}
 use Rattle.rules.proofs.Specimen.{form, parts, source}
 use Rattle.theorems.specs.Returns.{FoundFits}
@@ -58,8 +59,9 @@ misplaces-sections h =
     (ap (λ (p : Places). p .gds .start) (h specimen nothing tt room room (le-refl 4) (le-refl 4) .places))
 
 grid-fits : FoundFits (form .grid)
+unfolding cellsBy
 grid-fits =
-    record { ni = lit< tt; nj = lit< tt; flags = lit< tt; scan = lit< tt; di = lit< tt; dj = lit< tt }
+    (lit< tt, (lit< tt, (tt, (tt, (lit< tt, (tt, (tt, (lit< tt, (lit< tt, (lit< tt, (tt, tt)))))))))))
 
 -- the specimen's parts: what stood in the output is no message
 writes-nothing : ReadsBack writesNothing → ⊥

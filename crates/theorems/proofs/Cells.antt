@@ -3,7 +3,7 @@
 use Prim.Native.Nat.{ℕ, suc, _+_, _-_, _*_, _^_, _<_, _≤_}
 use mathlib.Core.Bool.{Bool, true, false, cond}
 use mathlib.Core.Path.{_≡_, refl, sym, subst, _∙_, ap}
-use mathlib.Core.List.{List, [], _∷_, _++_}
+use mathlib.Core.List.{List, [], _∷_}
 use native.Mathlib.Omega.{arith}
 use native.Mathlib.Nat.{pow-suc}
 use lib.Pow.{pow-pos}
@@ -12,25 +12,13 @@ use lib.Dec.{eqb}
 use lib.ListN.{length, getD, drop}
 use Rattle.bits.specs.Bits.{bitsIn, run, Wide}
 use Rattle.rules.specs.Numbers.{octet, laid, sign}
-use Rattle.rules.specs.Columns.{Sort, carried, side, latitude, longitude, reserved, Column, Cell, Cells, columnAt}
-use Rattle.rules.specs.Columns.{cellOf, cellNumber, cellStains, cellsAt, cellsFields, cellsStains, tiles}
-use Rattle.laws.specs.Signs.{SignFree}
-use Rattle.laws.proofs.Rows.{NoneOf, not-eq, is-eq}
-use Rattle.laws.proofs.Fields.{Fit, Back, Held, widths, all-back, laid-here, one}
+use Rattle.rules.specs.Columns.{Sort, carried, needed, distance, side, latitude, longitude, reserved, Column, Cell, Cells}
+use Rattle.rules.specs.Columns.{columnAt, cellOf, cellNumber, cellStains, cellsAt, cellsFields, cellsStains, tiles}
+use Rattle.laws.specs.Cells.{CellFits, CellsFit}
+use Rattle.laws.proofs.Rows.{NoneOf, none-both, none-parts, not-eq, is-eq}
+use Rattle.laws.proofs.Fields.{Fit, Back, Held, all-back, laid-here, one}
 use Rattle.laws.proofs.Columns.{tiled, widths-tile}
 use Rattle.laws.proofs.Signs.{signed-read, spelled-lt, plus, signed-here}
-
--- a cell fits its octets
-abbrev pub CellFits : (t : Sort) → ℕ → Cell t → Type 0
-CellFits carried c x = x < 2 ^ (c * 8)
-CellFits side c x = x < 2 ^ (c * 8)
-CellFits latitude c z = SignFree c z
-CellFits longitude c z = SignFree c z
-CellFits reserved c x = Unit {0}
-
-abbrev pub CellsFit : (cs : List Column) → Cells cs → Type 0
-CellsFit [] x = Unit {0}
-CellsFit (c ∷ cs) x = CellFits (c .sort) (c .width) (x .0) × CellsFit cs (x .1)
 
 -- one column
 double-sign : (c : ℕ) → 0 < c → sign c + sign c ≡ 2 ^ (c * 8)
@@ -41,6 +29,8 @@ double-sign c h =
 
 number-fits : (t : Sort) (c : ℕ) (x : Cell t) → 0 < c → CellFits t c x → cellNumber t c x < 2 ^ (c * 8)
 number-fits carried c x p h = h
+number-fits needed c x p h = h
+number-fits distance c x p h = h
 number-fits side c x p h = h
 number-fits latitude c z p h = spelled-lt c (2 ^ (c * 8)) z (double-sign c p) h
 number-fits longitude c z p h = spelled-lt c (2 ^ (c * 8)) z (double-sign c p) h
@@ -49,6 +39,8 @@ number-fits reserved c x p h = pow-pos (c * 8)
 -- a number that was written is the cell that it was, without a stain
 cell-back : (t : Sort) (c v : ℕ) (x : Cell t) → v ≡ cellNumber t c x → CellFits t c x → cellOf t c v ≡ x
 cell-back carried c v x e h = e
+cell-back needed c v x e h = e
+cell-back distance c v x e h = e
 cell-back side c v x e h = e
 cell-back latitude c v z e h = signed-read c v z e h
 cell-back longitude c v z e h = signed-read c v z e h
@@ -56,6 +48,8 @@ cell-back reserved c v x e h = refl
 
 no-stain : (t : Sort) (c v : ℕ) (x : Cell t) → v ≡ cellNumber t c x → CellFits t c x → NoneOf (cellStains t c v)
 no-stain carried c v x e h = tt
+no-stain needed c v x e h = tt
+no-stain distance c v x e h = tt
 no-stain side c v x e h = tt
 no-stain latitude c v z e h = (plus c v z e h, tt)
 no-stain longitude c v z e h = (plus c v z e h, tt)
@@ -64,6 +58,8 @@ no-stain reserved c v x e h = (not-eq v 0 e, tt)
 -- and a cell that was read is written as the number that stood there
 number-here : (t : Sort) (c v : ℕ) → NoneOf (cellStains t c v) → v ≡ cellNumber t c (cellOf t c v)
 number-here carried c v e = refl
+number-here needed c v e = refl
+number-here distance c v e = refl
 number-here side c v e = refl
 number-here latitude c v e = signed-here c v (eqb-false v (sign c) (e .0))
 number-here longitude c v e = signed-here c v (eqb-false v (sign c) (e .0))
@@ -87,15 +83,6 @@ column-run : (c : Column) (s : List ℕ) (g j : ℕ) → Wide 8 s → c .first �
 column-run c s g j w e =
     sym (column-is c s g j _ e refl
     (λ d. sym (one s w (g + j)) ∙ ap (λ (x : ℕ). run (bitsIn 8 s) ((g + j) * 8) (x * 8)) (sym d)))
-
--- tests joined
-pub none-both : (a b : List Bool) → NoneOf a → NoneOf b → NoneOf (a ++ b)
-none-both [] b h k = k
-none-both (t ∷ a) b h k = (h .0, none-both a b (h .1) k)
-
-pub none-parts : (a b : List Bool) → NoneOf (a ++ b) → NoneOf a × NoneOf b
-none-parts [] b h = (tt, h)
-none-parts (t ∷ a) b h = let k = none-parts a b (h .1) in ((h .0, k .0), k .1)
 
 -- all columns
 pub fields-fit : (cs : List Column) (j n : ℕ) → tiles cs j n ≡ true → (x : Cells cs) → CellsFit cs x

@@ -1,30 +1,40 @@
 -- Demand 2: reading and then writing gives the same octets only of a canonical message, since whatever is written is
 -- canonical: each section is laid without a stain.
-use Prim.Native.Nat.{ℕ, _+_, _*_, _^_, _<_}
+use Prim.Native.Nat.{ℕ, zero, suc, _+_, _-_, _*_, _^_, _<_}
 use mathlib.Core.Bool.{Bool, true, false, cond}
-use mathlib.Core.Path.{_≡_, sym, subst, _∙_, ap}
-use mathlib.Core.List.{List}
+use mathlib.Core.Path.{_≡_, refl, sym, subst, _∙_, ap}
+use mathlib.Core.List.{List, [], _∷_}
+use native.Mathlib.Omega.{arith}
 use native.Mathlib.Nat.{le-refl}
 use lib.Dec.{T, eqb}
-use lib.ListN.{length}
+use borrow.Author.Tests.{eqb-true}
+use lib.ListN.{length, getD}
+use Rattle.bits.specs.Bits.{bitsIn, run}
 use Rattle.bits.proofs.Runs.{bitsIn-bits, run-lt}
-use Rattle.rules.specs.declared.{Part.Part, Places.Places, Found.the-variants.Nothing, Found.the-variants.Given}
+use Rattle.rules.specs.declared.{Start.Start, Part.Part, Places.Places, Found.the-variants.Nothing, Found.the-variants.Given}
 use Rattle.rules.specs.declared.{Bitmap.the-variants.Carried, Bitmap.the-variants.Stored}
-use Rattle.rules.specs.Numbers.{number}
+use Rattle.rules.specs.Bounds.{octantRows}
+use Rattle.rules.specs.Counts.{countsOf}
+use Rattle.rules.specs.Numbers.{octet, number}
 use Rattle.rules.specs.Table.{accepted}
 use Rattle.rules.specs.Places.{pdsStart, hasGrid, hasBitmap, placesOf}
-use Rattle.rules.specs.Columns.{cellsAt}
-use Rattle.rules.specs.Grid.{Kind, latlon, thinned, columns, kindAt, gridOfCells, gridAt}
+use Rattle.rules.specs.Columns.{Sort, carried, needed, distance, side, latitude, longitude, reserved, Column, Cells}
+use Rattle.rules.specs.Columns.{columnAt, cellOf, cellsAt}
+use Rattle.rules.specs.Layouts.{Kind, latlon, thinned, mercator, lambert, gaussian, polar, countColumns, columns}
+use Rattle.rules.specs.Grid.{kindAt, countsHeld, countCells, startOf, gridOfCells, cellsBy, gridAt}
 use Rattle.rules.specs.Bitmap.{Lent, bitmapAt}
 use Rattle.rules.specs.Values.{scaleAt}
 use Rattle.rules.specs.Reading.{gridIn, bitmapIn, scaleIn}
 use Rattle.rules.specs.Writing.{Parts, gridGiven, pointsFor, message, writeRefusal, writeOf, outputAfter}
 use Rattle.rules.specs.RoundTrip.{partsIn, minusZero, bitmapPaddingSet, dataPaddingSet, canonical}
+use Rattle.laws.specs.Cells.{CellTyped, CellsTyped}
 use Rattle.laws.specs.Taken.{Taken}
 use Rattle.theorems.specs.Returns.{Below, GridFits, FoundFits, NumberFits, WriteAfterReadExactly, WrittenCanonical}
 use Rattle.laws.proofs.Rows.{true-is}
+use Rattle.laws.proofs.Counts.{count-most}
+use Rattle.laws.proofs.Grids.{octant-few}
 use Rattle.theorems.proofs.Replies.{handed-is}
-use Rattle.theorems.proofs.GridSection.{GridClean, found-clean}
+use Rattle.theorems.proofs.GridSection.{GridClean, tallies, found-clean}
 use Rattle.theorems.proofs.BitmapSection.{map-clean}
 use Rattle.theorems.proofs.DataSection.{scale-clean, data-clean}
 use Rattle.theorems.proofs.ReadBack.{marksFor, packedFor, few, marks-bits, data-fine, grid-fine, places}
@@ -68,34 +78,63 @@ written-canonical w out gf nf rf acc =
     subst (λ (s : List ℕ). T (canonical s (w .lent))) (sym (handed-is (writeRefusal w out) (message w) out acc))
     (true-is _ (clean-canonical (message w) (w .lent) (written-clean w out gf nf rf acc)))
 
--- what is read of octets fits the fields, of any kind
-read-fits : (k : Kind) (s : List ℕ) (g : ℕ) → Below 256 s → GridFits (gridOfCells k (cellsAt (columns k) s g))
-unfolding gridOfCells cellsAt
-read-fits latlon s g h =
-    let b = bitsIn-bits 8 s in
-    record {
-      ni = run-lt b ((g + 6) * 8) 16;
-      nj = run-lt b ((g + 8) * 8) 16;
-      flags = h (g + 16);
-      scan = h (g + 27);
-      di = run-lt b ((g + 23) * 8) 16;
-      dj = run-lt b ((g + 25) * 8) 16;
-    }
-read-fits thinned s g h =
-    let b = bitsIn-bits 8 s in
-    record {
-      ni = run-lt b ((g + 6) * 8) 16;
-      nj = run-lt b ((g + 8) * 8) 16;
-      flags = h (g + 16);
-      scan = h (g + 27);
-      di = run-lt b ((g + 23) * 8) 16;
-      dj = run-lt b ((g + 25) * 8) 16;
-    }
+-- what is read of octets fits its columns, of any table
+column-lt : (c : Column) (s : List ℕ) (g : ℕ) → Below 256 s → columnAt c s g < 2 ^ (c .width * 8)
+column-lt c s g h = go (eqb (c .width) 1) refl
+  where
+    go : (t : Bool) → eqb (c .width) 1 ≡ t
+        → cond t (octet s g (c .first)) (run (bitsIn 8 s) ((g + (c .first - 1)) * 8) (c .width * 8))
+        < 2 ^ (c .width * 8)
+    go true e =
+        subst (λ (w : ℕ). octet s g (c .first) < 2 ^ (w * 8)) (sym (eqb-true (c .width) 1 e)) (h (g + (c .first - 1)))
+    go false e = run-lt (bitsIn-bits 8 s) ((g + (c .first - 1)) * 8) (c .width * 8)
+
+cell-typed : (t : Sort) (c v : ℕ) → v < 2 ^ (c * 8) → CellTyped t c (cellOf t c v)
+cell-typed carried c v l = l
+cell-typed needed c v l = l
+cell-typed distance c v l = tt
+cell-typed side c v l = l
+cell-typed latitude c v l = tt
+cell-typed longitude c v l = tt
+cell-typed reserved c v l = tt
+
+cells-typed : (cs : List Column) (s : List ℕ) (g : ℕ) → Below 256 s → CellsTyped cs (cellsAt cs s g)
+unfolding cellsAt
+cells-typed [] s g h = tt
+cells-typed (c ∷ cs) s g h = (cell-typed (c .sort) (c .width) (columnAt c s g) (column-lt c s g h), cells-typed cs s g h)
+
+-- and a grid that was read has the cells that were read, of a thinned one with an octant's counts
+counts-typed : (k rows : ℕ) (counts : List ℕ) → ((j : ℕ) → getD counts j 0 < 2 ^ 16)
+    → CellsTyped (countColumns k rows) (countCells k rows counts)
+counts-typed k zero counts h = tt
+counts-typed k (suc rows) [] h = (omega arith, counts-typed (k + 2) rows [] h)
+counts-typed k (suc rows) (c ∷ counts) h = (h 0, counts-typed (k + 2) rows counts (λ j. h (suc j)))
+
+octant-typed : (f : Start) (j : ℕ) → getD (countsOf f) j 0 < 2 ^ 16
+octant-typed f j = omega (arith, count-most (countsOf f) j, octant-few f)
+
+abbrev Typed : (k : Kind) → Cells (columns k) → Type 0
+Typed k x = CellsTyped (columns k) x
+
+read-fits : (k : Kind) (x : Cells (columns k)) → Typed k x → GridFits (gridOfCells k x)
+unfolding gridOfCells cellsBy
+read-fits latlon x h = h
+read-fits thinned x h =
+    let f = startOf (countsHeld 33 octantRows (tallies x)) in
+    let y = h .1 .1 .1 .1 .1 in
+    let counts = counts-typed 33 octantRows (countsOf f) (octant-typed f) in
+    (h .0, (h .1 .0, (h .1 .1 .0, (h .1 .1 .1 .0, (h .1 .1 .1 .1 .0, (y .0, (y .1 .0, (y .1 .1 .0, (y .1 .1 .1 .0, (y .1 .1 .1 .1 .0, (tt, counts)))))))))))
+read-fits mercator x h = h
+read-fits lambert x h = h
+read-fits gaussian x h = h
+read-fits polar x h = h
 
 grid-fits : (b : Bool) (s : List ℕ) (p : Part) → Below 256 s → FoundFits (cond b (Given (gridAt s p)) Nothing)
 unfolding gridAt
 grid-fits false s p h = tt
-grid-fits true s p h = read-fits (kindAt s p) s (p .start) h
+grid-fits true s p h =
+    let k = kindAt s p in
+    read-fits k (cellsAt (columns k) s (p .start)) (cells-typed (columns k) s (p .start) h)
 
 number-fits : (b : Bool) (s : List ℕ) (k : ℕ) → NumberFits (bitmapAt s b k)
 unfolding bitmapAt

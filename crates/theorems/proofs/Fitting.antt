@@ -1,8 +1,7 @@
--- What is written fits the octets that the faces name: a rectangle has a short GDS and at most the most points, an octant
--- a longer one and far fewer points.
+-- What is written fits the octets that the faces name: a rectangle has a short GDS, of 42 octets at most, and at most the
+-- most points, an octant a longer one and far fewer points.
 use Prim.Native.Nat.{ℕ, _+_, _*_, _^_, _≤_, _<_}
-use mathlib.Core.Bool.{false}
-use mathlib.Core.Path.{_≡_, refl, sym, ap, _∙_}
+use mathlib.Core.Path.{_≡_, refl}
 use mathlib.Core.Logic.{_⊎_, inl, inr, ⊎-elim}
 use mathlib.Core.List.{List}
 use native.Mathlib.Omega.{arith}
@@ -12,12 +11,15 @@ use lib.ListN.{length}
 use Rattle.bits.specs.Bits.{octetsFor}
 use Rattle.bits.proofs.Ones.{count-le}
 use Rattle.rules.specs.declared.{Geometry.Geometry, Geometry.the-variants.LatLon, Geometry.the-variants.Thinned}
+use Rattle.rules.specs.declared.{Geometry.the-variants.Mercator, Geometry.the-variants.Lambert}
+use Rattle.rules.specs.declared.{Geometry.the-variants.Gaussian, Geometry.the-variants.Polar}
 use Rattle.rules.specs.declared.{Grid.Grid, Found.Found, Found.the-variants.Nothing, Found.the-variants.Given}
-use Rattle.rules.specs.Bounds.{pdsMost, gdsLength, thinnedLength, octantPoints, bmsHead, bdsHead, pointsMost, bitsMost}
+use Rattle.rules.specs.Bounds.{pdsMost, longLength, thinnedLength, octantPoints, bmsHead, bdsHead, pointsMost, bitsMost}
 use Rattle.rules.specs.Numbers.{evenFrom}
 use Rattle.rules.specs.Table.{accepted}
 use Rattle.rules.specs.Chart.{pointsOn}
-use Rattle.rules.specs.Grid.{lengthBy, kindOf, shapeBy, shapeOf, pointsOf, gridFrom, theGrid}
+use Rattle.rules.specs.Layouts.{lengthBy}
+use Rattle.rules.specs.Grid.{kindOf, shapeBy, shapeOf, pointsOf, gridFrom, theGrid}
 use Rattle.rules.specs.Bitmap.{valueOf}
 use Rattle.rules.specs.Writing.{Parts, gridFor, pointsFor, gdsFor, message, writeRefusal}
 use Rattle.theorems.specs.Returns.{NumberFits, writtenMost, WrittenFits}
@@ -32,12 +34,16 @@ use Rattle.theorems.proofs.ReadBack.{marksFor, packedFor, gdsPart, bmsP
 
 -- a grid section is short, or its grid is an octant
 abbrev Few : ℕ → ℕ → Type 0
-Few len n = (len ≤ gdsLength) ⊎ ((len ≤ thinnedLength) × (n ≤ octantPoints))
+Few len n = (len ≤ longLength) ⊎ ((len ≤ thinnedLength) × (n ≤ octantPoints))
 
 kind-few : (g : Grid) (x : Geometry) → Few (lengthBy (kindOf x)) (pointsOn (shapeBy g x))
 unfolding pointsOn
 kind-few g (LatLon x) = inl (omega arith)
 kind-few g (Thinned o) = inr (omega arith, octant-few (o .start))
+kind-few g (Mercator x) = inl (omega arith)
+kind-few g (Lambert x) = inl (omega arith)
+kind-few g (Gaussian x) = inl (omega arith)
+kind-few g (Polar x) = inl (omega arith)
 
 found-few : (f : Found) (p : List ℕ) → Few (length (gdsFor f)) (pointsOf (theGrid (gridFrom f p 0)))
 unfolding gridFrom shapeOf
@@ -76,7 +82,7 @@ module _ (w : Parts) (out : List ℕ) (nf : NumberFits (w .form .bitmap)) (rf : 
   fits : length (message w) ≤ writtenMost
   unfolding gridFor pointsFor
   fits =
-      ⊎-elim (λ l. within gdsLength pointsMost l (offer.points-most w out nf rf told))
+      ⊎-elim (λ l. within longLength pointsMost l (offer.points-most w out nf rf told))
       (λ l. let h = within thinnedLength octantPoints (l .0) (l .1) in omega (arith, h))
       (found-few (w .form .grid) (w .pds))
 
@@ -84,5 +90,5 @@ pub written-fits : WrittenFits
 written-fits w out nf rf acc = fits w out nf rf acc
 
 -- the number that the faces name
-pub most-is : writtenMost ≡ 205886
+pub most-is : writtenMost ≡ 205896
 most-is = refl

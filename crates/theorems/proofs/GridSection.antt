@@ -1,68 +1,51 @@
 -- The grid section, there or not: laid it reads back without a stain, and laid from what was read without a stain it is
 -- the section read; by the table of its kind. The kinds enter by computed cases alone.
-use Prim.Native.Nat.{ℕ, zero, suc, _+_, _%_, _^_, _≤_, _<_}
+use Prim.Native.Nat.{ℕ, zero, suc, _+_, _%_, _≤_}
 use mathlib.Core.Bool.{Bool, true, false, not, _&&_, cond}
 use mathlib.Core.Path.{_≡_, refl, sym, subst, ap, _∙_}
 use mathlib.Core.List.{List, [], _∷_, _++_, map}
 use native.Mathlib.Omega.{arith}
 use borrow.Author.Tests.{eqb-true}
-use lib.ListN.{length, getD, drop}
+use lib.ListN.{length, drop}
 use lib.Dec.{eqb}
 use Rattle.bits.specs.Bits.{Wide}
 use Rattle.bits.proofs.Tests.{both}
 use Rattle.rules.specs.declared.{Part.Part, Start.Start, Start.the-variants.Equator, Start.the-variants.Pole}
-use Rattle.rules.specs.declared.{Start.the-variants.Neither, Edges.Edges, Octant.Octant, Geometry.Geometry}
-use Rattle.rules.specs.declared.{Geometry.the-variants.LatLon, Geometry.the-variants.Thinned, Grid.Grid, Found.Found}
+use Rattle.rules.specs.declared.{Start.the-variants.Neither, Geometry.Geometry}
+use Rattle.rules.specs.declared.{Geometry.the-variants.LatLon, Geometry.the-variants.Thinned}
+use Rattle.rules.specs.declared.{Geometry.the-variants.Mercator, Geometry.the-variants.Lambert}
+use Rattle.rules.specs.declared.{Geometry.the-variants.Gaussian, Geometry.the-variants.Polar, Grid.Grid, Found.Found}
 use Rattle.rules.specs.declared.{Found.the-variants.Nothing, Found.the-variants.Given}
 use Rattle.rules.specs.Bounds.{gdsLeast, thinnedLength, octantRows}
 use Rattle.rules.specs.Counts.{fromEquator, countsOf}
-use Rattle.rules.specs.Numbers.{Field, laid, octet, number}
+use Rattle.rules.specs.Numbers.{Field, laid, octet}
 use Rattle.rules.specs.Table.{anyOf, orAll}
-use Rattle.rules.specs.Columns.{Column, Cells, cellsAt, cellsFields, cellsStains}
-use Rattle.rules.specs.Grid.{Kind, latlon, thinned, columns, countColumns, lengthBy, fifth, sixth, kinds, admits, gdsBad}
-use Rattle.rules.specs.Grid.{firstKind, kindAt, countsHeld, countCells, sameCounts, startOf, gridOfCells, kindOf, cellsBy}
-use Rattle.rules.specs.Grid.{cellsOf, gridAt, headFields, gridFields, gdsOf, gridStains, gridFrom, lookup, catalogue}
-use Rattle.rules.specs.Grid.{theGrid, startNumber, edgesOf, gridFaults}
+use Rattle.rules.specs.Columns.{Cells, cellsAt, cellsFields, cellsStains}
+use Rattle.rules.specs.Layouts.{Kind, latlon, thinned, mercator, lambert, gaussian, polar, columns, countColumns}
+use Rattle.rules.specs.Layouts.{lengthBy, fifth, sixth, kinds}
+use Rattle.rules.specs.Figures.{startNumber, figuresOf}
+use Rattle.rules.specs.Grid.{admits, gdsBad, firstKind, kindAt, countsHeld, countCells, sameCounts, startOf}
+use Rattle.rules.specs.Grid.{gridOfCells, kindOf, cellsBy, cellsOf, gridAt, headFields, gridFields, gdsOf, gridStains}
+use Rattle.rules.specs.Grid.{gridFrom, lookup, catalogue, theGrid, gridFaults}
 use Rattle.rules.specs.Writing.{gridGiven, gdsFor}
 use Rattle.theorems.specs.Returns.{GridFits, FoundFits}
-use Rattle.laws.proofs.Rows.{NoneOf, none-of, any-none, clash}
+use Rattle.laws.proofs.Rows.{NoneOf, any-none, clash}
 use Rattle.laws.proofs.Sections.{Cut}
-use Rattle.laws.proofs.Fields.{Fit, Back, Held, widths, all-back, laid-append, stands, here, one, after-fields, absent-here}
+use Rattle.laws.proofs.Fields.{Fit, Back, all-back, laid-append, stands, here, one, after-fields, absent-here}
 use Rattle.laws.proofs.Columns.{kind-tiles}
-use Rattle.laws.proofs.Counts.{count-most}
-use Rattle.laws.proofs.Grids.{Small, grid-small, octant-few}
+use Rattle.laws.specs.Cells.{CellsFit}
+use Rattle.laws.proofs.Grids.{grid-fits}
 use Rattle.laws.proofs.Lengths.{gds-laid, gds-length}
 use Rattle.theorems.proofs.Laid.{Sec, empty-sec, whole-sec, partIs}
-use Rattle.theorems.proofs.Cells.{CellsFit, fields-fit, read-cells, write-cells}
+use Rattle.theorems.proofs.Cells.{fields-fit, read-cells, write-cells}
 use Rattle.theorems.proofs.Octants.{one-of-eight}
 
 -- what of a grid the writer's row 9 and the fields' types leave
 pub record GridOk (g : Grid) : Type 0 where
   pub fit : CellsFit (columns (kindOf (g .geometry))) (cellsOf g)
 
-counts-fit : (k rows : ℕ) (counts : List ℕ) → ((j : ℕ) → getD counts j 0 < 2 ^ 16)
-    → CellsFit (countColumns k rows) (countCells k rows counts)
-counts-fit k zero counts h = tt
-counts-fit k (suc rows) [] h = (omega arith, counts-fit (k + 2) rows [] h)
-counts-fit k (suc rows) (c ∷ counts) h = (h 0, counts-fit (k + 2) rows counts (λ j. h (suc j)))
-
-octant-fit : (f : Start) (j : ℕ) → getD (countsOf f) j 0 < 2 ^ 16
-octant-fit f j = omega (arith, count-most (countsOf f) j, octant-few f)
-
-cells-fit : (g : Grid) (x : Geometry) → g .ni < 2 ^ 16 → g .nj < 2 ^ 16 → g .flags < 2 ^ 8 → g .scan < 2 ^ 8
-    → edgesOf x .di < 2 ^ 16 → edgesOf x .dj < 2 ^ 16 → Small g (edgesOf x)
-    → CellsFit (columns (kindOf x)) (cellsBy g x)
-unfolding cellsBy
-cells-fit g (LatLon x) ni nj flags scan di dj s =
-    (ni, (nj, (s .la1, (s .lo1, (flags, (s .la2, (s .lo2, (di, (dj, (scan, (tt, tt)))))))))))
-cells-fit g (Thinned o) ni nj flags scan di dj s =
-    let counts = counts-fit 33 octantRows (countsOf (o .start)) (octant-fit (o .start)) in
-    (ni, (nj, (s .la1, (s .lo1, (flags, (s .la2, (s .lo2, (di, (dj, (scan, (tt, counts)))))))))))
-
 grid-ok : (g : Grid) → GridFits g → anyOf (gridFaults g) ≡ false → GridOk g
-grid-ok g f e = record {
-  fit = cells-fit g (g .geometry) (f .ni) (f .nj) (f .flags) (f .scan) (f .di) (f .dj) (grid-small g e);
-}
+grid-ok g f e = record { fit = grid-fits g f e }
 
 -- the record of a record's cells
 start-back : (f : Start) → startOf (countsHeld 33 octantRows (countCells 33 octantRows (countsOf f))) ≡ f
@@ -79,6 +62,10 @@ unfolding gridOfCells cellsBy
 grid-cells g (LatLon x) = refl
 grid-cells g (Thinned o) =
     ap (λ (f : Start). with g (Thinned (record { edges = o .edges; start = f }))) (start-back (o .start))
+grid-cells g (Mercator x) = refl
+grid-cells g (Lambert x) = refl
+grid-cells g (Gaussian x) = refl
+grid-cells g (Polar x) = refl
 
 -- a kind's own octets pick it
 abbrev said : ℕ → ℕ → ℕ → ℕ → Kind → Bool
@@ -87,11 +74,19 @@ said l a b c k = eqb l (lengthBy k) && (eqb a 0 && (eqb b (fifth k) && eqb c (si
 own : (k : Kind) → firstKind kinds (said (lengthBy k) 0 (fifth k) (sixth k)) ≡ k
 own latlon = refl
 own thinned = refl
+own mercator = refl
+own lambert = refl
+own gaussian = refl
+own polar = refl
 
 taken : (k : Kind) → not (anyOf (map (said (lengthBy k) 0 (fifth k) (sixth k)) kinds)) ≡ false
 unfolding anyOf orAll
 taken latlon = refl
 taken thinned = refl
+taken mercator = refl
+taken lambert = refl
+taken gaussian = refl
+taken polar = refl
 
 -- octets 1 to 6
 abbrev top : Kind → List Field
@@ -100,10 +95,18 @@ top k = headFields k []
 top-fit : (k : Kind) → Fit (top k)
 top-fit latlon = (omega arith, (omega arith, (omega arith, (omega arith, tt))))
 top-fit thinned = (omega arith, (omega arith, (omega arith, (omega arith, tt))))
+top-fit mercator = (omega arith, (omega arith, (omega arith, (omega arith, tt))))
+top-fit lambert = (omega arith, (omega arith, (omega arith, (omega arith, tt))))
+top-fit gaussian = (omega arith, (omega arith, (omega arith, (omega arith, tt))))
+top-fit polar = (omega arith, (omega arith, (omega arith, (omega arith, tt))))
 
 long-enough : (k : Kind) → (gdsLeast ≤ lengthBy k) × (lengthBy k ≤ thinnedLength) × (eqb (lengthBy k % 2) 1 ≡ false)
 long-enough latlon = (omega arith, omega arith, refl)
 long-enough thinned = (omega arith, omega arith, refl)
+long-enough mercator = (omega arith, omega arith, refl)
+long-enough lambert = (omega arith, omega arith, refl)
+long-enough gaussian = (omega arith, omega arith, refl)
+long-enough polar = (omega arith, omega arith, refl)
 
 fields-all : (g : Grid) → GridOk g → Fit (gridFields g)
 unfolding gridFields
@@ -257,7 +260,7 @@ cells-counts k (suc rows) x =
     λ i. (x .0, e i)
 
 -- the cells of the record of cells
-abbrev tallies : Cells (columns thinned) → Cells (countColumns 33 octantRows)
+abbrev pub tallies : Cells (columns thinned) → Cells (countColumns 33 octantRows)
 tallies x = x .1 .1 .1 .1 .1 .1 .1 .1 .1 .1 .1
 
 abbrev refill : Cells (columns thinned) → Cells (countColumns 33 octantRows) → Cells (columns thinned)
@@ -267,7 +270,7 @@ refill x counts =
 
 not-neither : (x : Cells (columns thinned)) → anyOf (gridFaults (gridOfCells thinned x)) ≡ false
     → startOf (countsHeld 33 octantRows (tallies x)) ≡ Neither → ⊥
-unfolding gridOfCells
+unfolding gridOfCells figuresOf
 not-neither x h e =
     let o = one-of-eight (gridOfCells thinned x) _ refl h in
     let n : startNumber (startOf (countsHeld 33 octantRows (tallies x))) ≡ 3 = ap startNumber e in
@@ -281,6 +284,10 @@ fields-of thinned x h =
     let a = known (countsHeld 33 octantRows (tallies x)) (not-neither x h) in
     let e = ap (countCells 33 octantRows) a ∙ cells-counts 33 octantRows (tallies x) in
     ap (λ (q : Cells (countColumns 33 octantRows)). headFields thinned (cellsFields (columns thinned) (refill x q))) e
+fields-of mercator x h = refl
+fields-of lambert x h = refl
+fields-of gaussian x h = refl
+fields-of polar x h = refl
 
 -- the kind that is picked is admitted, where one is
 first-none : (ks : List Kind) (f : Kind → Bool) → f (firstKind ks f) ≡ false → NoneOf (map f ks)

@@ -1,13 +1,13 @@
 -- What is read of a message does not depend on its padding bits nor on its reserved octets: every field lies outside of
 -- them, section by section.
 use Prim.Native.Nat.{ℕ, _+_, _-_, _*_, _/_, _%_, _≤_, _<_}
-use mathlib.Core.Bool.{Bool, true, false, not, _&&_, _||_, cond}
+use mathlib.Core.Bool.{Bool, true, false, not, _&&_, cond}
 use mathlib.Core.Path.{_≡_, refl, sym, subst, _∙_, ap}
 use mathlib.Core.Logic.{_⊎_, inl, inr, ⊎-elim}
 use mathlib.Core.List.{List, [], _∷_, map}
 use native.Mathlib.Omega.{arith}
-use borrow.Author.Tests.{eqb-true, leb-true}
-use lib.Dec.{ltb, leb, eqb}
+use borrow.Author.Tests.{eqb-true}
+use lib.Dec.{T, ltb, eqb}
 use lib.ListN.{length, getD, take, drop}
 use lib.Seq.{getD-drop}
 use Rattle.bits.specs.Bits.{bitsIn, run, count, octetsFor}
@@ -26,10 +26,11 @@ use Rattle.rules.specs.Table.{anyOf}
 use Rattle.rules.specs.Places.{octetsOf, grib, sevens, pdsStart, endStart, hasGrid, hasBitmap, sectionAt, placesOf}
 use Rattle.rules.specs.Places.{sizeBad, gribBad, editionBad, totalFaults}
 use Rattle.rules.specs.Time.{momentFaults, timeFaults}
-use Rattle.rules.specs.Columns.{Sort, carried, side, latitude, longitude, reserved as kept, Column, columnAt, cellOf}
-use Rattle.rules.specs.Columns.{cellsAt}
-use Rattle.rules.specs.Grid.{Kind, latlon, thinned, columns, lengthBy, fifth, sixth, kinds, gdsBad, firstKind, kindAt}
-use Rattle.rules.specs.Grid.{gridOfCells, gridAt, gridFrom, gridMissing, theGrid, gridFaults, pointsOf}
+use Rattle.rules.specs.Columns.{Sort, carried, needed, distance, side, latitude, longitude, reserved as kept, Column}
+use Rattle.rules.specs.Columns.{columnAt, cellOf, cellsAt, tiles}
+use Rattle.rules.specs.Layouts.{Kind, columns, lengthBy, fifth, sixth, kinds}
+use Rattle.rules.specs.Grid.{gdsBad, firstKind, kindAt, gridOfCells, gridAt, gridFrom, gridMissing, theGrid}
+use Rattle.rules.specs.Grid.{gridFaults, pointsOf}
 use Rattle.rules.specs.Bitmap.{Lent, bitmapAt, lentFaults, bitmapFaults, bitmapGiven, inForce, bitmapOctets, presentBy}
 use Rattle.rules.specs.Points.{valueAt, scattered}
 use Rattle.rules.specs.Values.{packingAt, scaleAt, packingFaults, lengthBad, valuesAt}
@@ -38,41 +39,33 @@ use Rattle.rules.specs.Reading.{scaleIn, dataIn, valuesIn, marksIn}
 use Rattle.rules.specs.RoundTrip.{partsIn}
 use Rattle.laws.specs.Lengths.{placesFaults, lengthsBad}
 use Rattle.laws.specs.Taken.{Taken}
-use Rattle.theorems.specs.Returns.{Below, Ignored, reserved, bitmap, padding, PaddingIgnored}
-use Rattle.bits.proofs.Tests.{both}
+use Rattle.theorems.specs.Returns.{Below, isReserved, InReserved, Ignored, reserved, bitmap, padding}
+use Rattle.theorems.specs.Returns.{PaddingIgnored}
 use Rattle.laws.proofs.Rows.{taken-by, none-of, is-true, is-eq, and-false}
 use Rattle.laws.proofs.Judged.{Judged, judged, unjudged}
 use Rattle.laws.proofs.Sections.{Sections, sections}
 use Rattle.laws.proofs.Fields.{one}
+use Rattle.laws.proofs.Columns.{tiled, kind-tiles}
 use Rattle.theorems.proofs.GridSection.{from-same, admitted}
 use Rattle.laws.proofs.Bounded.{kind}
 
--- a column whose octets are read: it lies before the reserved octets or after them, or it is they
-abbrev openSort : Sort → Bool
-openSort carried = false
-openSort side = false
-openSort latitude = false
-openSort longitude = false
-openSort kept = true
+-- the reserved places of a table that begins after octet j lie from there on, and before its end
+tiles-le : (cs : List Column) (j n : ℕ) → tiles cs j n ≡ true → j ≤ n
+unfolding tiles
+tiles-le [] j n h = omega (arith, eqb-true j n h)
+tiles-le (c ∷ cs) j n h = omega (arith, tiles-le cs (j + c .width) n (tiled c cs j n h .next))
 
-abbrev openColumn : ℕ → Column → Bool
-openColumn len c =
-    openSort (c .sort)
-    || (leb (c .first - 1 + c .width) 28 || (leb 32 (c .first - 1) && leb (c .first - 1 + c .width) len))
+reserved-from : (cs : List Column) (j n : ℕ) → tiles cs j n ≡ true → (g i : ℕ) → InReserved cs g i
+    → ((g + j) * 8 ≤ i) × (i < (g + n) * 8)
+reserved-from [] j n h g i r = absurd r
+reserved-from (c ∷ cs) j n h g i r =
+    let t = tiled c cs j n h in
+    let l = tiles-le cs (j + c .width) n (t .next) in
+    ⊎-elim (λ q. (omega (arith, t .here, q .1 .0), omega (arith, t .here, l, q .1 .1)))
+    (λ q. let k = reserved-from cs (j + c .width) n (t .next) g i q in (omega (arith, k .0), k .1)) r
 
-abbrev openColumns : ℕ → List Column → Bool
-openColumns len [] = true
-openColumns len (c ∷ cs) = openColumn len c && openColumns len cs
-
-kind-open : (k : Kind) → openColumns (lengthBy k) (columns k) ≡ true
-kind-open latlon = refl
-kind-open thinned = refl
-
--- the cell of such a column is the same where the bits are
-module _ (o s : List ℕ) (g len : ℕ) (ws : Below 256 s) (wo : Below 256 o)
-    (front : (k w : ℕ) → k + w ≤ 28 → run (bitsIn 8 o) ((g + k) * 8) (w * 8) ≡ run (bitsIn 8 s) ((g + k) * 8) (w * 8))
-    (back : (k w : ℕ) → 32 ≤ k → k + w ≤ len
-    → run (bitsIn 8 o) ((g + k) * 8) (w * 8) ≡ run (bitsIn 8 s) ((g + k) * 8) (w * 8)) where
+-- so that the cells of a section are the same where its bits are, but for the reserved ones; of any table that tiles it
+module _ (o s : List ℕ) (g : ℕ) (ws : Below 256 s) (wo : Below 256 o) where
   column-by : (c : Column)
       → run (bitsIn 8 o) ((g + (c .first - 1)) * 8) (c .width * 8)
       ≡ run (bitsIn 8 s) ((g + (c .first - 1)) * 8) (c .width * 8)
@@ -90,32 +83,32 @@ module _ (o s : List ℕ) (g len : ℕ) (ws : Below 256 s) (wo : Below 256 o)
           ∙ one s ws at
       go false d = e
 
-  runs-by : (c : Column)
-      → (leb (c .first - 1 + c .width) 28 || (leb 32 (c .first - 1) && leb (c .first - 1 + c .width) len)) ≡ true
-      → columnAt c o g ≡ columnAt c s g
-  runs-by c h = column-by c (go (leb (c .first - 1 + c .width) 28) refl h)
-    where
-      go : (t : Bool) → leb (c .first - 1 + c .width) 28 ≡ t
-          → (t || (leb 32 (c .first - 1) && leb (c .first - 1 + c .width) len)) ≡ true
-          → run (bitsIn 8 o) ((g + (c .first - 1)) * 8) (c .width * 8)
-          ≡ run (bitsIn 8 s) ((g + (c .first - 1)) * 8) (c .width * 8)
-      go true d k = front (c .first - 1) (c .width) (leb-true _ _ d)
-      go false d k =
-          let b = both (leb 32 (c .first - 1)) (leb (c .first - 1 + c .width) len) k in
-          back (c .first - 1) (c .width) (leb-true _ _ (b .0)) (leb-true _ _ (b .1))
+  cell-by : (t : Sort) (c v w : ℕ) → (isReserved t ≡ false → v ≡ w) → cellOf t c v ≡ cellOf t c w
+  cell-by carried c v w f = f refl
+  cell-by needed c v w f = f refl
+  cell-by distance c v w f = f refl
+  cell-by side c v w f = f refl
+  cell-by latitude c v w f = ap (signed c) (f refl)
+  cell-by longitude c v w f = ap (signed c) (f refl)
+  cell-by kept c v w f = refl
 
-  open-same : (c : Column) → openColumn len c ≡ true
-      → cellOf (c .sort) (c .width) (columnAt c o g) ≡ cellOf (c .sort) (c .width) (columnAt c s g)
-  open-same c h = go (c .sort) refl h
-    where
-      go : (t : Sort) → c .sort ≡ t
-          → (openSort t || (leb (c .first - 1 + c .width) 28 || (leb 32 (c .first - 1) && leb (c .first - 1 + c .width) len))) ≡ true
-          → cellOf t (c .width) (columnAt c o g) ≡ cellOf t (c .width) (columnAt c s g)
-      go carried e k = ap (cellOf carried (c .width)) (runs-by c k)
-      go side e k = ap (cellOf side (c .width)) (runs-by c k)
-      go latitude e k = ap (cellOf latitude (c .width)) (runs-by c k)
-      go longitude e k = ap (cellOf longitude (c .width)) (runs-by c k)
-      go kept e k = refl
+  cells-same : (cs : List Column) (j n : ℕ) → tiles cs j n ≡ true
+      → ((i : ℕ) → (g + j) * 8 ≤ i → i < (g + n) * 8 → (InReserved cs g i → ⊥) → bitsIn 8 o i ≡ bitsIn 8 s i)
+      → cellsAt cs o g ≡ cellsAt cs s g
+  unfolding cellsAt
+  cells-same [] j n h f = refl
+  cells-same (c ∷ cs) j n h f =
+      let t = tiled c cs j n h in
+      let l = tiles-le cs (j + c .width) n (t .next) in
+      let a = (g + (c .first - 1)) * 8 in
+      let x = cell-by (c .sort) (c .width) (columnAt c o g) (columnAt c s g) (λ e. column-by c
+      (run-ext (bitsIn 8 o) (bitsIn 8 s) a a (c .width * 8)
+      (λ i m. f (a + i) (omega (arith, t .here)) (omega (arith, t .here, l)) (λ r.
+      ⊎-elim (λ q. subst T e (q .0))
+      (λ q. omega (arith, t .here, reserved-from cs (j + c .width) n (t .next) g (a + i) q .0)) r)))) in
+      let y = cells-same cs (j + c .width) n (t .next) (λ i m k r. f i (omega (arith, m)) k
+      (λ q. ⊎-elim (λ z. omega (arith, t .here, m, z .1 .1)) r q)) in
+      λ i. (x i, y i)
 
 module _ (s o : List ℕ) (lent : Lent) (ws : Below 256 s) (wo : Below 256 o) (len : length o ≡ length s)
     (same : (i : ℕ) → (Ignored s lent i → ⊥) → bitsIn 8 o i ≡ bitsIn 8 s i) (t : Taken s lent) where
@@ -162,12 +155,35 @@ module _ (s o : List ℕ) (lent : Lent) (ws : Below 256 s) (wo : Below 256 o) (l
   data-end =
       omega (arith, at .bds .least refl, is-eq (8 * (placesOf s .bds .len - 11)) (used + octet s D 4 % 16) (j .length))
 
+  -- the grid's reserved places lie after octet 6 of its section and before the next one
+  abbrev P : Part
+  P = placesOf s .gds
+
+  abbrev table : List Column
+  table = columns (kindAt s P)
+
+  abbrev NotReserved : ℕ → Type 0
+  NotReserved i = hasGrid s pdsStart ≡ true → InReserved table G i → ⊥
+
+  grid-long : hasGrid s pdsStart ≡ true → M ≡ G + lengthBy (kindAt s P)
+  grid-long h = at .at-bms ∙ ap (λ (k : ℕ). G + k) (admitted s P (and-false _ _ h (j .gds)) .len)
+
+  reserved-in : hasGrid s pdsStart ≡ true → (i : ℕ) → InReserved table G i → ((G + 6) * 8 ≤ i) × (i < M * 8)
+  reserved-in h i r =
+      let q = reserved-from table 6 (lengthBy (kindAt s P)) (kind-tiles (kindAt s P)) G i r in
+      (q .0, omega (arith, q .1, grid-long h))
+
+  early : (i : ℕ) → i < (G + 6) * 8 → NotReserved i
+  early i l h r = omega (arith, l, reserved-in h i r .0)
+
+  late : (i : ℕ) → M * 8 ≤ i → NotReserved i
+  late i l h r = omega (arith, l, reserved-in h i r .1)
+
   -- a place that is before or after each of the three is none of them
-  clear-of : (i : ℕ) → (i < (G + 28) * 8) ⊎ (hasGrid s pdsStart ≡ true → (G + 32) * 8 ≤ i)
+  clear-of : (i : ℕ) → NotReserved i
       → (i < (M + 6) * 8 + n) ⊎ (D * 8 ≤ i)
       → (i < (D + 11) * 8 + used) ⊎ (end * 8 ≤ i) → Ignored s lent i → ⊥
-  clear-of i a b c (reserved g h) =
-      ⊎-elim (λ l. omega (arith, h .0, l)) (λ l. omega (arith, h .1, l (is-true _ g))) a
+  clear-of i a b c (reserved g h) = a (is-true _ g) h
   clear-of i a b c (bitmap e h) = ⊎-elim (λ l. omega (arith, h .0, l)) (λ l. omega (arith, h .1, l, map-end e)) b
   clear-of i a b c (padding h) = ⊎-elim (λ l. omega (arith, h .0, l)) (λ l. omega (arith, h .1, l, data-end)) c
 
@@ -177,33 +193,25 @@ module _ (s o : List ℕ) (lent : Lent) (ws : Below 256 s) (wo : Below 256 o) (l
   front-bits a k l =
       run-ext (bitsIn 8 o) (bitsIn 8 s) a a k
       (λ i q. same (a + i)
-      (clear-of (a + i) (inl (omega arith)) (inl (omega (arith, at .at-bms)))
+      (clear-of (a + i) (early _ (omega arith)) (inl (omega (arith, at .at-bms)))
       (inl (omega (arith, at .at-bms, at .at-bds)))))
 
-  grid-bits : hasGrid s pdsStart ≡ true → (a k : ℕ) → a + k ≤ (G + 28) * 8 → run (bitsIn 8 o) a k ≡ run (bitsIn 8 s) a k
+  grid-bits : hasGrid s pdsStart ≡ true → (a k : ℕ) → a + k ≤ (G + 6) * 8 → run (bitsIn 8 o) a k ≡ run (bitsIn 8 s) a k
   grid-bits h a k l =
       run-ext (bitsIn 8 o) (bitsIn 8 s) a a k
       (λ i q. same (a + i)
-      (clear-of (a + i) (inl (omega arith)) (inl (omega (arith, grid-end h)))
+      (clear-of (a + i) (early _ (omega arith)) (inl (omega (arith, grid-end h)))
       (inl (omega (arith, grid-end h, at .at-bds)))))
-
-  -- and after them
-  count-bits : hasGrid s pdsStart ≡ true → (a k : ℕ) → (G + 32) * 8 ≤ a → a + k ≤ M * 8
-      → run (bitsIn 8 o) a k ≡ run (bitsIn 8 s) a k
-  count-bits h a k m l =
-      run-ext (bitsIn 8 o) (bitsIn 8 s) a a k
-      (λ i q. same (a + i)
-      (clear-of (a + i) (inr (λ g. omega arith)) (inl (omega arith)) (inl (omega (arith, at .at-bds)))))
 
   map-bits : hasBitmap s pdsStart ≡ true → (a k : ℕ) → M * 8 ≤ a → a + k ≤ (M + 6) * 8
       → run (bitsIn 8 o) a k ≡ run (bitsIn 8 s) a k
   map-bits h a k m l =
       run-ext (bitsIn 8 o) (bitsIn 8 s) a a k
       (λ i q. same (a + i)
-      (clear-of (a + i) (inr (λ g. omega (arith, grid-end g))) (inl (omega arith)) (inl (omega (arith, map-head h)))))
+      (clear-of (a + i) (late _ (omega arith)) (inl (omega arith)) (inl (omega (arith, map-head h)))))
 
   data-bit : (i : ℕ) → D * 8 ≤ i → i < (D + 11) * 8 + used → bitsIn 8 o i ≡ bitsIn 8 s i
-  data-bit i m l = same i (clear-of i (inr (λ g. omega (arith, grid-end g, at .at-bds))) (inr m) (inl l))
+  data-bit i m l = same i (clear-of i (late i (omega (arith, m, at .at-bds))) (inr m) (inl l))
 
   data-bits : (a k : ℕ) → D * 8 ≤ a → a + k ≤ (D + 11) * 8 + used → run (bitsIn 8 o) a k ≡ run (bitsIn 8 s) a k
   data-bits a k m l = run-ext (bitsIn 8 o) (bitsIn 8 s) a a k (λ i q. data-bit (a + i) (omega arith) (omega arith))
@@ -212,7 +220,7 @@ module _ (s o : List ℕ) (lent : Lent) (ws : Below 256 s) (wo : Below 256 o) (l
   end-bits a k m =
       run-ext (bitsIn 8 o) (bitsIn 8 s) a a k
       (λ i q. same (a + i)
-      (clear-of (a + i) (inr (λ g. omega (arith, grid-end g, at .at-bds))) (inr (omega arith)) (inr (omega arith))))
+      (clear-of (a + i) (late _ (omega (arith, at .at-bds))) (inr (omega arith)) (inr (omega arith))))
 
   -- an octet is the number in its bits
   by-bits : (k : ℕ) → run (bitsIn 8 o) (k * 8) 8 ≡ run (bitsIn 8 s) (k * 8) 8 → getD o k 0 ≡ getD s k 0
@@ -275,33 +283,19 @@ module _ (s o : List ℕ) (lent : Lent) (ws : Below 256 s) (wo : Below 256 o) (l
       ap (λ (k : ℕ). take k (drop 8 o)) pds-len
       ∙ sym (octets-here o 8 c f wo (omega (arith, len, at .at-gds, at .at-bms, at .at-bds, at .end))
       (λ i l. sym (same (64 + i) (clear-of (64 + i)
-      (inl (omega (arith, at .at-gds))) (inl (omega (arith, at .at-gds, at .at-bms)))
+      (early _ (omega (arith, at .at-gds))) (inl (omega (arith, at .at-gds, at .at-bms)))
       (inl (omega (arith, at .at-gds, at .at-bms, at .at-bds)))))))
       ∙ octets-here s 8 c f ws (omega (arith, at .at-gds, at .at-bms, at .at-bds, at .end)) (λ i l. refl)
 
   -- the grid
-  grid-octet : hasGrid s pdsStart ≡ true → (k : ℕ) → k < 28 → getD o (G + k) 0 ≡ getD s (G + k) 0
+  grid-octet : hasGrid s pdsStart ≡ true → (k : ℕ) → k < 6 → getD o (G + k) 0 ≡ getD s (G + k) 0
   grid-octet h k l = by-bits (G + k) (grid-bits h ((G + k) * 8) 8 (omega arith))
 
-  abbrev P : Part
-  P = placesOf s .gds
-
-  -- a column of the grid's table, unless it is reserved
-  column-same : hasGrid s pdsStart ≡ true → (c : Column) → openColumn (P .len) c ≡ true
-      → cellOf (c .sort) (c .width) (columnAt c o G) ≡ cellOf (c .sort) (c .width) (columnAt c s G)
-  column-same h c f =
-      open-same o s G (P .len) ws wo (λ k w l. grid-bits h ((G + k) * 8) (w * 8) (omega arith))
-      (λ k w m l. count-bits h ((G + k) * 8) (w * 8) (omega arith) (omega (arith, at .at-bms))) c f
-
-  cells-same : hasGrid s pdsStart ≡ true → (cs : List Column) → openColumns (P .len) cs ≡ true
-      → cellsAt cs o G ≡ cellsAt cs s G
-  unfolding cellsAt
-  cells-same h [] f = refl
-  cells-same h (c ∷ cs) f =
-      let b = both (openColumn (P .len) c) (openColumns (P .len) cs) f in
-      let x = column-same h c (b .0) in
-      let y = cells-same h cs (b .1) in
-      λ i. (x i, y i)
+  table-same : hasGrid s pdsStart ≡ true → cellsAt table o G ≡ cellsAt table s G
+  table-same h =
+      cells-same o s G ws wo table 6 (lengthBy (kindAt s P)) (kind-tiles (kindAt s P))
+      (λ i l m r. same i
+      (clear-of i (λ k. r) (inl (omega (arith, m, grid-long h))) (inl (omega (arith, m, grid-long h, at .at-bds)))))
 
   kind-same : hasGrid s pdsStart ≡ true → kindAt o P ≡ kindAt s P
   unfolding kindAt
@@ -312,11 +306,8 @@ module _ (s o : List ℕ) (lent : Lent) (ws : Below 256 s) (wo : Below 256 o) (l
   grid-same : hasGrid s pdsStart ≡ true → gridAt o P ≡ gridAt s P
   unfolding gridAt
   grid-same h =
-      let a = admitted s P (and-false _ _ h (j .gds)) in
       ap (λ (k : Kind). gridOfCells k (cellsAt (columns k) o G)) (kind-same h)
-      ∙ ap (gridOfCells (kindAt s P))
-      (cells-same h (columns (kindAt s P))
-      (subst (λ (n : ℕ). openColumns n (columns (kindAt s P)) ≡ true) (sym (a .len)) (kind-open (kindAt s P))))
+      ∙ ap (gridOfCells (kindAt s P)) (table-same h)
 
   grid-in : gridIn o ≡ gridIn s
   unfolding gridIn
@@ -370,7 +361,7 @@ module _ (s o : List ℕ) (lent : Lent) (ws : Below 256 s) (wo : Below 256 o) (l
   present-as Carried e i l =
       bits-take (octetsFor n) (drop (M + 6) o) i (omega arith) ∙ sym (bits-drop (M + 6) o i)
       ∙ same ((M + 6) * 8 + i)
-      (clear-of ((M + 6) * 8 + i) (inr (λ g. omega (arith, grid-end g))) (inl (omega arith)) (inl (omega (arith, map-end e))))
+      (clear-of ((M + 6) * 8 + i) (late _ (omega arith)) (inl (omega arith)) (inl (omega (arith, map-end e))))
       ∙ bits-drop (M + 6) s i ∙ sym (bits-take (octetsFor n) (drop (M + 6) s) i (omega arith))
 
   present-same : (i : ℕ) → i < n → presentIn o lent i ≡ presentIn s lent i

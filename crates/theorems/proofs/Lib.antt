@@ -17,6 +17,7 @@ pub mod DataSection
 -- reading, writing, and both round trips
 pub mod Place
 pub mod North
+pub mod EachKind
 pub mod Offered
 pub mod Reoffered
 pub mod Points

@@ -1,28 +1,34 @@
--- Demand 2: the chart's row 0 is the row that the latitudes call north; row 9 holds the scanning flags to the
--- latitudes, and the chart is drawn by the flags.
+-- Demand 2: the chart's row 0 is the row that the latitudes call north, where a kind of grid has them: row 9 holds the
+-- scanning flags to the latitudes, and the chart is drawn by the flags. Else it is the row of the greatest y.
 use Prim.Native.Nat.{ℕ, _-_, _<_}
 use mathlib.Core.Bool.{Bool, true, false, not, cond}
 use mathlib.Core.Path.{_≡_, refl, sym, subst, _∙_, ap}
 use mathlib.Core.Logic.{inl, inr}
 use native.Mathlib.Omega.{arith}
 use borrow.Author.Tests.{lt-ltb, not-false}
+use mathlib.Core.List.{[], _∷_}
 use lib.Dec.{ltb}
 use lib.ListN.{length}
 use lib.Signed.{ltZ}
-use Rattle.rules.specs.declared.{Signed.Signed, Rectangle.Rectangle, Thinning.Thinning, Shape.Shape}
+use Rattle.rules.specs.declared.{Signed.Signed, Shape.Shape}
 use Rattle.rules.specs.declared.{Shape.the-variants.Even, Shape.the-variants.Uneven, Octant.Octant, Geometry.Geometry}
-use Rattle.rules.specs.declared.{Geometry.the-variants.LatLon, Geometry.the-variants.Thinned, Grid.Grid, Spot.Spot}
+use Rattle.rules.specs.declared.{Geometry.the-variants.LatLon, Geometry.the-variants.Thinned}
+use Rattle.rules.specs.declared.{Geometry.the-variants.Mercator, Geometry.the-variants.Lambert}
+use Rattle.rules.specs.declared.{Geometry.the-variants.Gaussian, Geometry.the-variants.Polar, Grid.Grid, Spot.Spot}
 use Rattle.rules.specs.Counts.{countsOf}
 use Rattle.rules.specs.Numbers.{bit}
 use Rattle.rules.specs.Table.{anyOf}
-use Rattle.rules.specs.Grid.{shapeBy, shapeOf, theGrid, gridFaults, scanBad, edgesOf}
+use Rattle.rules.specs.Layouts.{thinned}
+use Rattle.rules.specs.Figures.{figuresOf}
+use Rattle.rules.specs.Grid.{kindOf, rectangleOf, shapeBy, shapeOf, theGrid, scanBad, scanFaults, shapeFaults, kindFaults}
+use Rattle.rules.specs.Grid.{gridFaults}
 use Rattle.rules.specs.Chart.{north, turned, spotAmong, rowsOn, spotOn}
 use Rattle.rules.specs.Reading.{gridOf}
-use Rattle.laws.proofs.Rows.{none-of, and-false}
+use Rattle.laws.proofs.Rows.{NoneOf, none-of, none-parts, and-false}
 use Rattle.laws.proofs.Counts.{joined}
 use Rattle.laws.proofs.Grids.{faults-by}
 use Rattle.laws.proofs.Judged.{judged}
-use Rattle.theorems.specs.Reads.{DrawnIn, NorthOnTop, TopIsNorth}
+use Rattle.theorems.specs.Reads.{DrawnIn, NorthOnTop, aboveLeast, GreatestOnTop, TopBy, TopOfChart, OneChart}
 use Rattle.theorems.proofs.Octants.{one-of-eight}
 use Rattle.theorems.proofs.Place.{chart-drawn}
 
@@ -68,24 +74,67 @@ by-flag g la1 la2 l false e h =
           (omega (arith, l)) false e (n - 1) refl,
     )
 
--- of any grid that row 9 passes: a rectangle by the scan test, an octant since it is one of the eight
-by-kind : (g : Grid) (x : Geometry) → g .geometry ≡ x → anyOf (gridFaults g) ≡ false → 1 < rowsOn (shapeBy g x)
-    → NorthOnTop (shapeBy g x) (g .la1) (edgesOf x .la2)
+-- of any grid that row 9 passes and that has a last latitude to go by: by the scan test
+by-scan : (g : Grid) (x : Geometry) (la2 : Signed) → g .geometry ≡ x → shapeBy g x ≡ rectangleOf g
+    → scanFaults g x ≡ scanBad (g .nj) (g .scan) (g .la1) la2 ∷ []
+    → anyOf (gridFaults g) ≡ false
+    → 1 < rowsOn (rectangleOf g)
+    → NorthOnTop (rectangleOf g) (g .la1) la2
 unfolding rowsOn scanBad bit
-by-kind g (LatLon x) e h l =
-    let f = none-of _ (sym (faults-by g (LatLon x) e) ∙ h) in
-    by-flag (shapeBy g (LatLon x)) (g .la1) (x .la2) l (north (g .scan)) refl
-    (and-false (ltb 1 (g .nj)) _ (lt-ltb _ _ l) (f .1 .0))
-by-kind g (Thinned o) e h l =
+by-scan g x la2 e q t h l =
+    let f = none-parts (kindFaults g x) _ (none-of _ (sym (faults-by g x e) ∙ h)) .0 in
+    let k = none-parts (shapeFaults g (shapeBy g x)) (scanFaults g x) f .1 in
+    by-flag (rectangleOf g) (g .la1) la2 l (north (g .scan)) refl
+    (and-false (ltb 1 (g .nj)) _ (lt-ltb _ _ l) (subst NoneOf t k .0))
+
+-- of a grid that has none: by bit 2 alone
+up-or-down : (b : Bool) (n j : ℕ) → j < n → cond b (n - 1 - j) j ≡ n - 1 - cond b j (n - 1 - j)
+up-or-down true n j l = refl
+up-or-down false n j l = omega (arith, l)
+
+greatest-on-top : (g : Grid) → GreatestOnTop (rectangleOf g) (g .scan)
+greatest-on-top g j l =
+    let q = rectangleOf g in
+    drawn q j l (north (g .scan)) refl (rowsOn q - 1 - aboveLeast (g .scan) (rowsOn q) j)
+    (up-or-down (north (g .scan)) (rowsOn q) j l)
+
+-- and of an octant, since it is one of the eight
+by-eight : (g : Grid) (o : Octant) → g .geometry ≡ Thinned o → anyOf (gridFaults g) ≡ false
+    → 1 < rowsOn (shapeBy g (Thinned o))
+    → NorthOnTop (shapeBy g (Thinned o)) (g .la1) (o .edges .la2)
+unfolding figuresOf bit
+by-eight g o e h l =
     let f = one-of-eight g o e h in
-    let up = subst (λ (y : Geometry). ltZ (g .la1 .value) (edgesOf y .la2 .value) ≡ true) e (f .up) in
+    let up = subst (λ (y : Geometry). ltZ (g .la1 .value) (figuresOf y .la2 .value) ≡ true) e (f .up) in
     by-flag (shapeBy g (Thinned o)) (g .la1) (o .edges .la2) l true (flag (g .scan) (f .scan)) (ap not up)
   where
     flag : (scan : ℕ) → scan ≡ 64 → north scan ≡ true
     flag scan e = ap north e
 
-pub top-is-north : TopIsNorth
+by-kind : (g : Grid) (x : Geometry) → g .geometry ≡ x → anyOf (gridFaults g) ≡ false → 1 < rowsOn (shapeBy g x)
+    → TopBy (shapeBy g x) g x
+by-kind g (LatLon x) e h l = by-scan g (LatLon x) (x .la2) e refl refl h l
+by-kind g (Thinned o) e h l = by-eight g o e h l
+by-kind g (Mercator x) e h l = by-scan g (Mercator x) (x .la2) e refl refl h l
+by-kind g (Lambert x) e h l = greatest-on-top g
+by-kind g (Gaussian x) e h l = by-scan g (Gaussian x) (x .la2) e refl refl h l
+by-kind g (Polar x) e h l = greatest-on-top g
+
+pub top-of-chart : TopOfChart
 unfolding shapeOf
-top-is-north s lent t l =
+top-of-chart s lent t l =
     let g = theGrid (gridOf s) in
     by-kind g (g .geometry) refl (judged s lent t .grid) l
+
+-- all kinds but the thinned one have the same chart
+pub one-chart : OneChart
+unfolding shapeOf
+one-chart g n = by (g .geometry) n
+  where
+    by : (x : Geometry) → (kindOf x ≡ thinned → ⊥) → shapeBy g x ≡ rectangleOf g
+    by (LatLon x) n = refl
+    by (Thinned x) n = absurd (n refl)
+    by (Mercator x) n = refl
+    by (Lambert x) n = refl
+    by (Gaussian x) n = refl
+    by (Polar x) n = refl

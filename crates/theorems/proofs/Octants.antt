@@ -9,17 +9,18 @@ use borrow.Author.Tests.{not-true, not-false, ltb-false}
 use lib.IntN.{ℤ, pos, negsuc}
 use lib.Signed.{ltZ}
 use Rattle.bits.proofs.Tests.{or-false}
-use Rattle.rules.specs.declared.{Signed.Signed, Octant.Octant, Geometry.the-variants.Thinned, Grid.Grid, Entry.Entry}
+use Rattle.rules.specs.declared.{Octant.Octant, Geometry.the-variants.Thinned, Grid.Grid, Entry.Entry}
 use Rattle.rules.specs.Table.{anyOf}
 use Rattle.rules.specs.Columns.{cellsFaults}
-use Rattle.rules.specs.Grid.{rowsNumber, geometryBy, octants, apart, edgesOf, gridDiffers, sameGrid, likeOne, gridFaults}
+use Rattle.rules.specs.Figures.{geometryBy, figuresOf}
+use Rattle.rules.specs.Grid.{octants, apart, figuresDiffer, gridDiffers, sameGrid, likeOne, gridFaults}
 use Rattle.laws.proofs.Rows.{none-of, is-eq, clash}
 use Rattle.laws.proofs.Grids.{faults-by}
 
 pub record OneOfEight (g : Grid) : Type 0 where
   pub scan : g .scan ≡ 64
-  pub up : ltZ (g .la1 .value) (edgesOf (g .geometry) .la2 .value) ≡ true
-  pub rows : rowsNumber (g .geometry) < 3
+  pub up : ltZ (g .la1 .value) (figuresOf (g .geometry) .la2 .value) ≡ true
+  pub rows : figuresOf (g .geometry) .rows < 3
 
 -- two signed fields that are not apart
 same-value : (a b : ℤ) → (ltZ a b || ltZ b a) ≡ false → a ≡ b
@@ -35,28 +36,29 @@ same-value (negsuc m) (negsuc n) h =
     ap negsuc e
 
 -- a grid like an octant
-like : (g o : Grid) → o .scan ≡ 64 → ltZ (o .la1 .value) (edgesOf (o .geometry) .la2 .value) ≡ true
-    → rowsNumber (o .geometry) < 3
+like : (g o : Grid) → o .scan ≡ 64 → ltZ (o .la1 .value) (figuresOf (o .geometry) .la2 .value) ≡ true
+    → figuresOf (o .geometry) .rows < 3
     → sameGrid g o ≡ true
     → OneOfEight g
-unfolding gridDiffers
+unfolding gridDiffers figuresDiffer
 like g o es eu er h =
     let n = none-of (gridDiffers g o) (not-true _ h) in
     let a = same-value (g .la1 .value) (o .la1 .value) (n .1 .1 .0) in
     let s = n .1 .1 .1 .1 .1 in
-    let b = same-value (edgesOf (g .geometry) .la2 .value) (edgesOf (o .geometry) .la2 .value) (s .1 .0) in
+    let f = none-of (figuresDiffer (figuresOf (g .geometry)) (figuresOf (o .geometry))) (s .1 .0) in
+    let b = same-value (figuresOf (g .geometry) .la2 .value) (figuresOf (o .geometry) .la2 .value) (f .1 .1 .0) in
     record {
       scan = is-eq (g .scan) (o .scan) (s .0) ∙ es;
       up = (λ i. ltZ (a i) (b i)) ∙ eu;
-      rows = subst (λ (x : ℕ). x < 3) (sym (is-eq _ _ (s .1 .1 .1 .1 .1 .0))) er;
+      rows = subst (λ (x : ℕ). x < 3) (sym (is-eq _ _ (f .1 .0))) er;
     }
 
 -- one of a list
 abbrev Each : List Entry → Type 0
 Each [] = Unit {0}
 Each (e ∷ es) =
-    ((e .grid .scan ≡ 64) × (ltZ (e .grid .la1 .value) (edgesOf (e .grid .geometry) .la2 .value) ≡ true)
-    × (rowsNumber (e .grid .geometry) < 3))
+    ((e .grid .scan ≡ 64) × (ltZ (e .grid .la1 .value) (figuresOf (e .grid .geometry) .la2 .value) ≡ true)
+    × (figuresOf (e .grid .geometry) .rows < 3))
     × Each es
 
 some : (es : List Entry) (g : Grid) → Each es → likeOne es g ≡ true → OneOfEight g
@@ -70,7 +72,7 @@ some (e ∷ es) g f h = go (sameGrid g (e .grid)) refl h (some es g (f .1))
     go false d k next = next k
 
 each : Each octants
-unfolding octants geometryBy
+unfolding octants geometryBy figuresOf
 each = (
   (refl, refl, omega arith),
   ((refl, refl, omega arith), ((refl, refl, omega arith), ((refl, refl, omega arith), ((refl, refl, omega arith), ((refl, refl, omega arith), ((refl, refl, omega arith), ((refl, refl, omega arith), tt))))))),

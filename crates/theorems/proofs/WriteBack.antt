@@ -23,8 +23,7 @@ use Rattle.rules.specs.Writing.{Parts, gdsFor, message, writeRefusal, writeOf, 
 use Rattle.rules.specs.RoundTrip.{partsIn, minusZero, bitmapPaddingSet, dataPaddingSet, stains, canonical}
 use Rattle.laws.specs.Taken.{Taken}
 use Rattle.theorems.specs.Returns.{Below, WriteAfterRead}
-use Rattle.laws.proofs.Rows.{none-of, any-none, is-true, is-eq, clash}
-use Rattle.theorems.proofs.Cells.{none-both, none-parts}
+use Rattle.laws.proofs.Rows.{none-of, any-none, is-true, is-eq, clash, none-both, none-parts}
 use Rattle.theorems.proofs.Replies.{handed-is}
 use Rattle.laws.proofs.Judged.{Judged, judged}
 use Rattle.laws.proofs.Sections.{Sections, sections}

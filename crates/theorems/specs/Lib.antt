@@ -6,3 +6,4 @@ pub mod Years
 pub mod Reads
 pub mod Returns
 pub mod Checks
+pub mod Kinds

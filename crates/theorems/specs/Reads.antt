@@ -13,7 +13,10 @@ use lib.Ieee.{binary64, ofBits}
 use lib.Ieee.Exact.{HasValue}
 use Rattle.bits.specs.Bits.{bitsIn, run, count}
 use Rattle.rules.specs.declared.{Header.Header, Signed.Signed, Part.Part, Bitmap.the-variants.Without, Shape.Shape}
-use Rattle.rules.specs.declared.{Shape.the-variants.Even, Shape.the-variants.Uneven}
+use Rattle.rules.specs.declared.{Shape.the-variants.Even, Shape.the-variants.Uneven, Geometry.Geometry}
+use Rattle.rules.specs.declared.{Geometry.the-variants.LatLon, Geometry.the-variants.Thinned}
+use Rattle.rules.specs.declared.{Geometry.the-variants.Mercator, Geometry.the-variants.Lambert}
+use Rattle.rules.specs.declared.{Geometry.the-variants.Gaussian, Geometry.the-variants.Polar, Grid.Grid}
 use Rattle.rules.specs.declared.{GridPoint.GridPoint, Spot.Spot, Charted.the-variants.On, Pointed.the-variants.At}
 use Rattle.rules.specs.Bounds.{bdsHead}
 use Rattle.rules.specs.Numbers.{joined, decimalAt}
@@ -21,7 +24,8 @@ use Rattle.rules.specs.Table.{refusal, accepted}
 use Rattle.rules.specs.Places.{octetsOf, noPart, after, pdsStart, endStart, hasGrid, hasBitmap, placesOf, sectionsOf}
 use Rattle.rules.specs.Time.{momentAt}
 use Rattle.rules.specs.Counts.{total, beforeRow, countsOf}
-use Rattle.rules.specs.Grid.{theGrid, shapeOf, edgesOf}
+use Rattle.rules.specs.Layouts.{thinned}
+use Rattle.rules.specs.Grid.{kindOf, theGrid, rectangleOf, shapeOf}
 use Rattle.rules.specs.Chart.{west, north, byColumn, spotOf, pointOf, spotAmong, pointAmong, pointsOn, rowsOn, rowLong}
 use Rattle.rules.specs.Chart.{spotOn, pointOn, charted, pointed}
 use Rattle.rules.specs.Bitmap.{Lent, markOf, marksLong, valueOf}
@@ -184,12 +188,34 @@ NorthOnTop g la1 la2 =
     ((ltZ (la2 .value) (la1 .value) ≡ true) × DrawnIn g 0 0 × DrawnIn g last last)
     ⊎ ((ltZ (la1 .value) (la2 .value) ≡ true) × DrawnIn g 0 last × DrawnIn g last 0)
 
+-- R-4: "on the other two, chart row 0 is the greatest y": how many rows scanned row j stands above the row of the least
+-- y, by bit 2, and that the rows are drawn from the greatest y down
+abbrev pub aboveLeast : ℕ → ℕ → ℕ → ℕ
+aboveLeast scan rows j = cond (north scan) j (rows - 1 - j)
+
+abbrev pub GreatestOnTop : Shape → ℕ → Type 0
+GreatestOnTop g scan = (j : ℕ) → j < rowsOn g → DrawnIn g j (rowsOn g - 1 - aboveLeast scan (rowsOn g) j)
+
+-- what row 0 is, by the kind of grid
+abbrev pub TopBy : Shape → Grid → Geometry → Type 0
+TopBy q g (LatLon x) = NorthOnTop q (g .la1) (x .la2)
+TopBy q g (Thinned o) = NorthOnTop q (g .la1) (o .edges .la2)
+TopBy q g (Mercator x) = NorthOnTop q (g .la1) (x .la2)
+TopBy q g (Lambert x) = GreatestOnTop q (g .scan)
+TopBy q g (Gaussian x) = NorthOnTop q (g .la1) (x .la2)
+TopBy q g (Polar x) = GreatestOnTop q (g .scan)
+
 -- of every message that is taken, by its GDS or by the catalogue
-abbrev pub TopIsNorth : Type 0
-TopIsNorth =
+abbrev pub TopOfChart : Type 0
+TopOfChart =
     (s : List ℕ) (lent : Lent) → Taken s lent
     → let g = theGrid (gridOf s) in 1 < rowsOn (shapeOf g)
-    → NorthOnTop (shapeOf g) (g .la1) (edgesOf (g .geometry) .la2)
+    → TopBy (shapeOf g) g (g .geometry)
+
+-- "The facts about scanning and points are proved once over all grid kinds": they speak of shapes, and the shape of a
+-- grid that is not thinned is the same function of Ni, Nj and the scanning flags, whatever its kind
+abbrev pub OneChart : Type 0
+OneChart = (g : Grid) → (kindOf (g .geometry) ≡ thinned → ⊥) → shapeOf g ≡ rectangleOf g
 
 -- "the row and column of each grid point": place and point determine each other on every grid, whatever its flags
 abbrev pub PlacePoint : Type 0

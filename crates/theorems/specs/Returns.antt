@@ -1,9 +1,9 @@
 -- Document 00, demand 2: "Writing gives a message that reads back to the same parts", and "Reading and then writing
 -- gives the same octets when ..".
-use Prim.Native.Nat.{ℕ, _+_, _-_, _*_, _^_, _<_, _≤_}
+use Prim.Native.Nat.{ℕ, zero, suc, _+_, _-_, _*_, _^_, _<_, _≤_}
 use mathlib.Core.Path.{_≡_}
 use mathlib.Core.Logic.{_↔_, _⊎_}
-use mathlib.Core.Bool.{Bool, cond}
+use mathlib.Core.Bool.{Bool, true, false, cond}
 use mathlib.Core.List.{List, [], _∷_}
 use lib.Dec.{T, eqb}
 use lib.ListN.{length, getD, take}
@@ -11,17 +11,20 @@ use Rattle.rules.specs.declared.{Header.Header, Grid.Grid, Found.Found, Found.t
 use Rattle.rules.specs.declared.{Found.the-variants.Given, Bitmap.Bitmap, Bitmap.the-variants.Without}
 use Rattle.rules.specs.declared.{Bitmap.the-variants.Carried, Bitmap.the-variants.Stored, Form.Form, Written.Written}
 use Rattle.bits.specs.Bits.{bitsIn, octetsFor}
-use Rattle.rules.specs.Bounds.{pdsMost, gdsLength, bmsHead, bdsHead, pointsMost, bitsMost}
+use Rattle.rules.specs.Bounds.{pdsMost, longLength, bmsHead, bdsHead, pointsMost, bitsMost}
 use Rattle.rules.specs.Numbers.{octet, evenFrom}
 use Rattle.rules.specs.Table.{refusal, accepted}
 use Rattle.rules.specs.Places.{octetsOf, pdsStart, hasGrid, placesOf}
-use Rattle.rules.specs.Grid.{edgesOf}
+use Rattle.rules.specs.Columns.{Sort, carried, needed, distance, side, latitude, longitude, reserved as kept, Column}
+use Rattle.rules.specs.Layouts.{Kind, thinned, columns}
+use Rattle.rules.specs.Grid.{kindOf, cellsOf, kindAt}
 use Rattle.rules.specs.Bitmap.{Lent, marksLong}
 use Rattle.rules.specs.Reading.{pointsIn, bitmapIn, presentCount, packingIn, readOf, valuesAfter, marksAfter}
 use Rattle.rules.specs.Writing.{Parts, pointsFor, message, writeRefusal, writeOf, outputAfter, lengthFor}
 use Rattle.rules.specs.Checking.{Source}
 use Rattle.rules.specs.Packing.{packedParts, packRefusal}
 use Rattle.rules.specs.RoundTrip.{partsIn, stains, canonical}
+use Rattle.laws.specs.Cells.{CellsTyped}
 use Rattle.laws.specs.Taken.{Taken}
 use Rattle.theorems.specs.Reads.{Tells}
 
@@ -29,13 +32,9 @@ use Rattle.theorems.specs.Reads.{Tells}
 abbrev pub Below : ℕ → List ℕ → Type 0
 Below b s = (i : ℕ) → getD s i 0 < b
 
-pub record GridFits (g : Grid) : Type 0 where
-  pub ni : g .ni < 2 ^ 16
-  pub nj : g .nj < 2 ^ 16
-  pub flags : g .flags < 2 ^ 8
-  pub scan : g .scan < 2 ^ 8
-  pub di : edgesOf (g .geometry) .di < 2 ^ 16
-  pub dj : edgesOf (g .geometry) .dj < 2 ^ 16
+-- of a grid, column by column of its kind's table
+abbrev pub GridFits : Grid → Type 0
+GridFits g = CellsTyped (columns (kindOf (g .geometry))) (cellsOf g)
 
 abbrev pub FoundFits : Found → Type 0
 FoundFits Nothing = Unit {0}
@@ -120,21 +119,43 @@ abbrev pub WriteAfterReadExactly : Type 0
 WriteAfterReadExactly =
     (s : List ℕ) (lent : Lent) → Below 256 s → Taken s lent → T (canonical s lent) ↔ (message (partsIn s lent) ≡ s)
 
--- and none of the conditions can be left out: for each there is a message of octets that is taken, breaks that one
--- alone, and does not come back
-abbrev pub only : ℕ → List Bool
-only k = eqb k 0 ∷ eqb k 1 ∷ eqb k 2 ∷ eqb k 3 ∷ eqb k 4 ∷ eqb k 5 ∷ eqb k 6 ∷ eqb k 7 ∷ []
+-- and none of the conditions can be left out, of any kind of grid whose rows are not thinned: for each there is a
+-- message of octets on such a grid that is taken, breaks that one alone, and does not come back. (An octant's longitudes
+-- are never 0, so that they have no minus zero.) How many conditions a table has: one for each angle and each reserved
+-- column
+abbrev pub sortStains : Sort → ℕ
+sortStains carried = 0
+sortStains needed = 0
+sortStains distance = 0
+sortStains side = 0
+sortStains latitude = 1
+sortStains longitude = 1
+sortStains kept = 1
 
-pub record Stained (k : ℕ) : Type 0 where
+abbrev pub tableStains : List Column → ℕ
+tableStains [] = 0
+tableStains (c ∷ cs) = sortStains (c .sort) + tableStains cs
+
+-- and a message: these, the bitmap's padding, E, and the data's padding
+abbrev pub stainsOf : Kind → ℕ
+stainsOf kind = tableStains (columns kind) + 3
+
+-- of n conditions, counted from i on, number k alone
+abbrev pub only : ℕ → ℕ → ℕ → List Bool
+only i zero k = []
+only i (suc n) k = eqb k i ∷ only (suc i) n k
+
+pub record Stained (kind : Kind) (k : ℕ) : Type 0 where
   pub s : List ℕ
   pub lent : Lent
   pub octets : Below 256 s
   pub taken : Taken s lent
-  pub alone : stains s lent ≡ only k
+  pub kind-is : kindAt s (placesOf s .gds) ≡ kind
+  pub alone : stains s lent ≡ only 0 (stainsOf kind) k
   pub lost : message (partsIn s lent) ≡ s → ⊥
 
 abbrev pub StainsNeeded : Type 0
-StainsNeeded = (k : ℕ) → k < 8 → Stained k
+StainsNeeded = (kind : Kind) → (kind ≡ thinned → ⊥) → (k : ℕ) → k < stainsOf kind → Stained kind k
 
 -- "29-32 reserved, .. written zero", "Padding bits are .. written zero", minus zero "is written as plus zero": whatever
 -- is written has none of the stains. (Of D, in the PDS given, and of R the octets are written as given; `stains` speaks
@@ -145,16 +166,33 @@ WrittenCanonical =
     → T (accepted (writeRefusal w out))
     → T (canonical (handed (writeOf w out) (outputAfter w out)) (w .lent))
 
--- "29-32 reserved, ignored on reading", "Padding bits are ignored on reading": the bit places of a message that are
--- these
+-- "29-32 reserved, ignored on reading", and so of each kind its own; "Padding bits are ignored on reading": the bit
+-- places of a message that are these
 abbrev pub Within : ℕ → ℕ → ℕ → Type 0
 Within from n i = (from ≤ i) × (i < from + n)
+
+abbrev pub isReserved : Sort → Bool
+isReserved carried = false
+isReserved needed = false
+isReserved distance = false
+isReserved side = false
+isReserved latitude = false
+isReserved longitude = false
+isReserved kept = true
+
+-- of a section at place g, by its table
+abbrev pub InReserved : List Column → ℕ → ℕ → Type 0
+InReserved [] g i = ⊥
+InReserved (c ∷ cs) g i =
+    (T (isReserved (c .sort)) × Within ((g + (c .first - 1)) * 8) (c .width * 8) i) ⊎ InReserved cs g i
 
 abbrev pub dataBits : List ℕ → Lent → ℕ
 dataBits s lent = presentCount s lent * packingIn s .bits
 
 pub data Ignored (s : List ℕ) (lent : Lent) (i : ℕ) : Type 0 where
-  reserved : T (hasGrid s pdsStart) → Within ((placesOf s .gds .start + 28) * 8) 32 i → Ignored s lent i
+  reserved : T (hasGrid s pdsStart)
+      → InReserved (columns (kindAt s (placesOf s .gds))) (placesOf s .gds .start) i
+      → Ignored s lent i
   bitmap : bitmapIn s ≡ Carried
       → Within ((placesOf s .bms .start + bmsHead) * 8 + pointsIn s) (octet s (placesOf s .bms .start) 4) i
       → Ignored s lent i
@@ -169,11 +207,12 @@ PaddingIgnored =
     → ((i : ℕ) → (Ignored s lent i → ⊥) → bitsIn 8 o i ≡ bitsIn 8 s i)
     → Taken s lent → Taken o lent × (partsIn o lent ≡ partsIn s lent)
 
--- "n = Ni × Nj", at most 65,536, "The GDS is 178 octets" of 3,447 points: what is written fits the octets that the faces
--- name (GRIB1_WRITTEN_MOST): an indicator, a PDS, a GDS, a bitmap and data of the most points, and the end
+-- "n = Ni × Nj", at most 65,536, "GDS 42 octets", "The GDS is 178 octets" of 3,447 points: what is written fits the
+-- octets that the faces name (GRIB1_WRITTEN_MOST): an indicator, a PDS, a GDS, a bitmap and data of the most points, and
+-- the end
 abbrev pub writtenMost : ℕ
 writtenMost =
-    8 + pdsMost + gdsLength + evenFrom (bmsHead + octetsFor pointsMost)
+    8 + pdsMost + longLength + evenFrom (bmsHead + octetsFor pointsMost)
     + evenFrom (bdsHead + octetsFor (pointsMost * bitsMost)) + 4
 
 abbrev pub WrittenFits : Type 0

@@ -2,35 +2,47 @@
 // value and mark.
 use crate::POINTS;
 use crate::line::word;
-use kinds::edges_of;
-use kinds::rows_number;
+use kinds::figures_of;
 use rules::Bitmap;
-use rules::Edges;
+use rules::Figures;
 use rules::Form;
 use rules::Found;
 use rules::Grid;
 use rules::Header;
 use rules::Scale;
 
-// Whether two grids' edges are the same, by value.
-fn same_edges(a: Edges, b: Edges) -> bool {
-    (a.la2.value == b.la2.value) & (a.lo2.value == b.lo2.value) & (a.di == b.di) & (a.dj == b.dj)
+// Whether two geometries are the same, figure by figure, angles by their values.
+fn same_figures(a: Figures, b: Figures) -> bool {
+    (a.kind == b.kind)
+        & (a.rows == b.rows)
+        & (a.la2.value == b.la2.value)
+        & (a.lo2.value == b.lo2.value)
+        & (a.di == b.di)
+        & (a.dj == b.dj)
+        & (a.dx == b.dx)
+        & (a.dy == b.dy)
+        & (a.lov.value == b.lov.value)
+        & (a.latin1.value == b.latin1.value)
+        & (a.latin2.value == b.latin2.value)
+        & (a.pole_la.value == b.pole_la.value)
+        & (a.pole_lo.value == b.pole_lo.value)
+        & (a.centre == b.centre)
+        & (a.circles == b.circles)
 }
 
 // Whether two grids are the same, by value.
 fn same_grid(a: Grid, b: Grid) -> bool {
     let x = a.geometry;
     let y = b.geometry;
-    let m = edges_of(x);
-    let n = edges_of(y);
+    let m = figures_of(x);
+    let n = figures_of(y);
     (a.ni == b.ni)
         & (a.nj == b.nj)
         & (a.la1.value == b.la1.value)
         & (a.lo1.value == b.lo1.value)
         & (a.flags == b.flags)
         & (a.scan == b.scan)
-        & same_edges(m, n)
-        & (rows_number(x) == rows_number(y))
+        & same_figures(m, n)
 }
 
 // The grid given is the message's; where none was, it has no grid section.

@@ -1,14 +1,15 @@
-// A vector's fields, 51 octets: 1 the call; 2 whether a grid is given, 3-28 the grid; 29 the bitmap's kind, 30-31 its
+// A vector's fields, 83 octets: 1 the call; 2 whether a grid is given, 3-28 the grid; 29 the bitmap's kind, 30-31 its
 // number; 32 flags; 33 N; 34-37 E; 38-41 R; 42-45 D; 46-47 the lent bitmap's number; 48-50 how many octets are lent for
-// the message; 51 how the grid's rows are counted. Of E, D, latitudes and longitudes, one below 0 stands there as 2^31
-// and how far it is below -1.
-use kinds::geometry_by;
+// the message; 51 how the grid's rows are counted; 52 the grid's kind, 53-60 its steps in metres, 61-80 its other
+// angles, 81 the projection centre flag, 82-83 a Gaussian grid's N. Of E, D and angles, one below 0 stands there as
+// 2^31 and how far it is below -1.
+use kinds::geometry_of;
 use octets::four;
 use octets::octet;
 use octets::plain;
 use octets::two;
 use rules::Bitmap;
-use rules::Edges;
+use rules::Figures;
 use rules::Form;
 use rules::Found;
 use rules::Grid;
@@ -16,7 +17,7 @@ use rules::Packing;
 use rules::Scale;
 use rules::Signed;
 
-pub(crate) const FIELDS: usize = 51;
+pub(crate) const FIELDS: usize = 83;
 
 // A number with its sign.
 pub(crate) fn lowered(x: u32) -> i32 {
@@ -36,14 +37,29 @@ pub(crate) fn call(fields: &[u8]) -> u8 {
     octet(fields, 0, 1)
 }
 
-// The grid.
-fn grid(fields: &[u8]) -> Grid {
-    let edges = Edges {
+// What only its own kind of grid has.
+fn figures(fields: &[u8]) -> Figures {
+    Figures {
+        kind: octet(fields, 0, 52),
+        rows: octet(fields, 0, 51),
         la2: signed(fields, 16),
         lo2: signed(fields, 20),
         di: two(fields, 0, 24),
         dj: two(fields, 0, 26),
-    };
+        dx: four(fields, 0, 53),
+        dy: four(fields, 0, 57),
+        lov: signed(fields, 61),
+        latin1: signed(fields, 65),
+        latin2: signed(fields, 69),
+        pole_la: signed(fields, 73),
+        pole_lo: signed(fields, 77),
+        centre: octet(fields, 0, 81),
+        circles: two(fields, 0, 82),
+    }
+}
+
+// The grid.
+fn grid(fields: &[u8]) -> Grid {
     Grid {
         ni: two(fields, 0, 3),
         nj: two(fields, 0, 5),
@@ -51,7 +67,7 @@ fn grid(fields: &[u8]) -> Grid {
         lo1: signed(fields, 11),
         flags: octet(fields, 0, 15),
         scan: octet(fields, 0, 28),
-        geometry: geometry_by(octet(fields, 0, 51), edges),
+        geometry: geometry_of(figures(fields)),
     }
 }
 

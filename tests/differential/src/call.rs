@@ -1,6 +1,7 @@
 //! One call of the codec: what is sent to the driver, and what must come back.
 
 use second_reading as rules;
+use crate::kinds::{in_form, in_message, of_grid};
 use second_reading::cases::pds_in;
 use second_reading::grid::{from_catalogue, points};
 use second_reading::{BitmapKind, DataNumber, Form, Grid, Header, Lent, Part, Parts, Reply, Rows, Source};
@@ -20,6 +21,9 @@ const PACK: u32 = 10;
 const LENGTH: u32 = 11;
 const ROW: u32 = 12;
 
+/// Octets that hold any message that is written: a GDS of 42 with 65,536 points.
+const WRITTEN_MOST: usize = 205_896;
+
 pub struct Call {
     /// What is called, for the report of a difference.
     pub what: String,
@@ -29,6 +33,10 @@ pub struct Call {
     pub reply: Option<Reply>,
     /// The PDS whose time a function judges that gives a reply; no octets of another function.
     pub pds: Vec<u8>,
+    /// Which kind of grid it is about, where it is about one, as `kinds` counts them.
+    pub kind: Option<usize>,
+    /// Of a function of the chart, whether it finds something there.
+    pub found: Option<bool>,
 }
 
 #[derive(Default)]
@@ -72,8 +80,9 @@ impl Octets {
     /// The grid with this number for its rows: of counts that no octant has it may be any above 2.
     fn grid_as(&mut self, g: &Grid, rows: u8) -> &mut Octets {
         self.words(&[g.la1 as u32, g.lo1 as u32, g.la2 as u32, g.lo2 as u32])
-            .words(&[g.ni as u32, g.nj as u32, g.di as u32, g.dj as u32])
-            .words(&[g.flags as u32, g.scan as u32, rows as u32])
+            .words(&[g.lov as u32, g.latin1 as u32, g.latin2 as u32, g.pole_la as u32, g.pole_lo as u32])
+            .words(&[g.dx, g.dy, g.ni as u32, g.nj as u32, g.di as u32, g.dj as u32, g.circles as u32])
+            .words(&[g.flags as u32, g.scan as u32, rows as u32, g.kind as u32, g.centre as u32])
     }
 
     fn part(&mut self, stored: bool, p: Part) -> &mut Octets {
@@ -153,6 +162,8 @@ pub fn header(message: &[u8], lent: &Lent) -> (Header, Call) {
         expected: Octets::default().header(&h).kept(),
         reply: Some(h.told()),
         pds: pds_in(message).to_vec(),
+        kind: in_message(message),
+        found: None,
     };
     (h, call)
 }
@@ -166,6 +177,8 @@ pub fn read(message: &[u8], lent: &Lent, values: &[u32], marks: &[u8]) -> Call {
         expected: Octets::default().header(&h).words(&v).octets(&m).kept(),
         reply: Some(h.told()),
         pds: pds_in(message).to_vec(),
+        kind: in_message(message),
+        found: None,
     }
 }
 
@@ -177,6 +190,8 @@ pub fn section(message: &[u8], lent: &Lent, k: u32) -> Call {
         expected: Octets::default().part(false, part).kept(),
         reply: None,
         pds: Vec::new(),
+        kind: None,
+        found: None,
     }
 }
 
@@ -188,6 +203,8 @@ pub fn bitmap(message: &[u8], lent: &Lent) -> Call {
         expected: Octets::default().part(stored, part).kept(),
         reply: None,
         pds: Vec::new(),
+        kind: None,
+        found: None,
     }
 }
 
@@ -203,6 +220,8 @@ pub fn display(message: &[u8], lent: &Lent) -> Call {
             .kept(),
         reply: Some(reply),
         pds: pds_in(message).to_vec(),
+        kind: in_message(message),
+        found: None,
     }
 }
 
@@ -218,6 +237,8 @@ pub fn data_number(message: &[u8], lent: &Lent, point: u32) -> Call {
         expected: Octets::default().words(&[kind, number]).kept(),
         reply: None,
         pds: Vec::new(),
+        kind: None,
+        found: None,
     }
 }
 
@@ -239,11 +260,13 @@ impl Chart {
         let mut asked = Octets::default();
         asked.word(function).grid_as(g, self.rows).words(words);
         Call {
-            what: format!("{what} on {} by {}, scan {}, rows {}", g.ni, g.nj, g.scan, self.rows),
+            what: format!("{what} on kind {}, {} by {}, scan {}, rows {}", g.kind, g.ni, g.nj, g.scan, self.rows),
             asked: asked.0,
             expected: Octets::default().words(told).kept(),
             reply: None,
             pds: Vec::new(),
+            kind: Some(of_grid(g)),
+            found: Some(told[0] != 0),
         }
     }
 
@@ -288,6 +311,8 @@ pub fn write(parts: &Parts, kinds: Kinds, out: &[u8]) -> Call {
         expected: Octets::default().words(&[reply, len]).octets(&after).kept(),
         reply: Some(Reply::of(reply)),
         pds: parts.pds.clone(),
+        kind: in_form(&meant.form),
+        found: None,
     }
 }
 
@@ -297,7 +322,7 @@ pub fn length(pds: &[u8], form: &Form, kinds: Kinds, lent: &Lent, marks: &[u8]) 
     let grid = meant.grid.or_else(|| pds.get(6).and_then(|&number| from_catalogue(number)));
     let n = grid.map_or(0, |g| points(&g)).min(65_537) as usize;
     let parts = Parts { pds: pds.to_vec(), form: meant, e: 0, r: 0, lent: lent.clone(), values: vec![0; n], marks: marks.to_vec() };
-    let (reply, len) = rules::write(&parts, &mut vec![0; 205_886]);
+    let (reply, len) = rules::write(&parts, &mut vec![0; WRITTEN_MOST]);
     let mut asked = Octets::default();
     asked.word(LENGTH).list(pds).form(form, kinds).lent(lent).list(marks);
     Call {
@@ -306,6 +331,8 @@ pub fn length(pds: &[u8], form: &Form, kinds: Kinds, lent: &Lent, marks: &[u8]) 
         expected: Octets::default().words(&[reply, len]).kept(),
         reply: Some(Reply::of(reply)),
         pds: pds.to_vec(),
+        kind: in_form(&meant),
+        found: None,
     }
 }
 
@@ -323,13 +350,16 @@ pub fn check(message: &[u8], lent: &Lent, source: &Source) -> Call {
         expected: Octets::default().reply(reply).kept(),
         reply: Some(reply),
         pds: pds_in(message).to_vec(),
+        kind: in_message(message),
+        found: None,
     }
 }
 
 /// The call, and what the output must hold after it.
 pub fn pack(pds: &[u8], form: &Form, kinds: Kinds, lent: &Lent, source: &Source, out: &[u8]) -> (Call, Vec<u8>) {
     let mut after = out.to_vec();
-    let (reply, len) = rules::pack(pds, &form_meant(form, kinds), lent, source, &mut after);
+    let meant = form_meant(form, kinds);
+    let (reply, len) = rules::pack(pds, &meant, lent, source, &mut after);
     let mut asked = Octets::default();
     asked
         .word(PACK)
@@ -346,6 +376,8 @@ pub fn pack(pds: &[u8], form: &Form, kinds: Kinds, lent: &Lent, source: &Source,
         expected: Octets::default().words(&[reply, len]).octets(&after).kept(),
         reply: Some(Reply::of(reply)),
         pds: pds.to_vec(),
+        kind: in_form(&meant),
+        found: None,
     };
     after.truncate(len as usize);
     (call, after)

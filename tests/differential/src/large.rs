@@ -3,7 +3,7 @@
 
 use crate::call::{self, Call, Chart, Kinds};
 use second_reading::cases::Rng;
-use second_reading::grid::{from_catalogue, points};
+use second_reading::grid::{from_catalogue, layout_of, length_of, own_figures, points, What, KINDS, LAT_LON};
 use second_reading::{points_in_row, write, BitmapKind, Form, Grid, Lent, Parts, Reply, Rows, Source};
 
 const CATALOGUE: [u8; 15] = [2, 3, 29, 30, 33, 34, 45, 37, 38, 39, 40, 41, 42, 43, 44];
@@ -24,14 +24,15 @@ fn pds(rng: &mut Rng, number: u8, has_grid: bool, has_bitmap: bool, d: i32) -> V
     pds
 }
 
-/// A chart of up to 65,536 points.
-fn wide_grid(rng: &mut Rng) -> Grid {
+/// A chart of up to 65,536 points, of this kind.
+fn wide_grid(rng: &mut Rng, kind: u8) -> Grid {
     let (a, b) = (1 + rng.below(300), 1 + rng.below(200));
     let (ni, nj) = rng.pick(&[(256, 256), (65_534, 1), (1, 65_534), (2, 32_768), (32_768, 2), (255, 257), (a, b), (a, b), (a, b), (a, b), (a, b)]);
     let scan = (rng.below(8) * 32) as u8 | rng.octet() & 0x1F;
     let (south, north) = (-90_000 + rng.below(90_000) as i32, 1 + rng.below(90_000) as i32);
     let upward = scan & 0x40 != 0;
-    Grid {
+    let grid = Grid {
+        kind,
         ni: ni as u16,
         nj: nj as u16,
         la1: if upward { south } else { north },
@@ -43,7 +44,17 @@ fn wide_grid(rng: &mut Rng) -> Grid {
         dj: rng.draw() as u16,
         scan,
         rows: Rows::Even,
-    }
+        dx: rng.below(1 << 24) as u32,
+        dy: rng.below(1 << 24) as u32,
+        lov: rng.between(-360_000, 360_000) as i32,
+        latin1: rng.between(-90_000, 90_000) as i32,
+        latin2: rng.between(-90_000, 90_000) as i32,
+        pole_la: rng.between(-90_000, 90_000) as i32,
+        pole_lo: rng.between(-360_000, 360_000) as i32,
+        centre: rng.octet(),
+        circles: rng.below(65_535) as u16,
+    };
+    own_figures(&grid)
 }
 
 /// Marks in stretches, so that whole octets of a bitmap are ones, zeros or mixed.
@@ -70,8 +81,10 @@ fn bits_in_octets(rng: &mut Rng, marks: &[u8]) -> Vec<u8> {
 fn stain(rng: &mut Rng, message: &mut [u8], header: &second_reading::Header) {
     let places = &header.places;
     if places.gds.len > 0 {
-        for octet in &mut message[places.gds.start as usize + 28..][..4] {
-            *octet = rng.octet();
+        for &(first, last, _) in layout_of(header.grid.kind).iter().filter(|line| line.2 == What::Reserved) {
+            for octet in &mut message[places.gds.start as usize..][first - 1..last] {
+                *octet = rng.octet();
+            }
         }
     }
     let mut noise = |part: second_reading::Part, unused: u32| {
@@ -96,7 +109,7 @@ pub fn calls(seed: u64, index: usize) -> Vec<Call> {
     let grid = match index % 4 {
         0 => from_catalogue(number).expect("in the catalogue"),
         1 => from_catalogue(37 + (index / 4 % 8) as u8).expect("an octant"),
-        _ => wide_grid(rng),
+        _ => wide_grid(rng, KINDS[index / 4 % KINDS.len()]),
     };
     let n = points(&grid) as usize;
     let bitmap = rng.pick(&[BitmapKind::Without, BitmapKind::Carried, BitmapKind::Stored(7)]);
@@ -151,10 +164,11 @@ pub fn calls(seed: u64, index: usize) -> Vec<Call> {
         }
         calls.extend((0..n as u32 + 2).step_by(7).map(|point| chart.place(point)));
     }
-    // each octet of an octant's GDS after its length, another one
-    if grid.rows != Rows::Even && !catalogued {
+    // each octet after its length of the GDS of an octant, or of another kind than latitude/longitude, another one
+    if !catalogued && (grid.rows != Rows::Even || grid.kind != LAT_LON) {
         let gds = header.places.gds.start as usize;
-        for octet in gds + 3..gds + 178 {
+        let length = if grid.rows == Rows::Even { length_of(grid.kind) } else { 178 };
+        for octet in gds + 3..gds + length {
             let mut other = message.clone();
             let (own, flipped) = (message[octet], message[octet] ^ 1 << rng.below(8));
             other[octet] = rng.pick(&[own.wrapping_add(1), own.wrapping_sub(1), flipped]);

@@ -2,6 +2,7 @@
 //! them changes.
 
 use crate::bits::{bits_of, octet, octets_of, signed_in};
+use crate::grid::{layout_of, own_figures, What};
 use crate::read::{header, part_of, read};
 use crate::{BitmapKind, Form, Lent, Parts};
 
@@ -30,6 +31,14 @@ pub fn parts_of(message: &[u8], lent: &Lent) -> Parts {
     }
 }
 
+/// Parts as reading gives them back: the grid without the numbers that its kind does
+/// not have.
+pub fn as_read(parts: &Parts) -> Parts {
+    let mut parts = parts.clone();
+    parts.form.grid = parts.form.grid.as_ref().map(own_figures);
+    parts
+}
+
 /// The bits of a section from octet `first` on, zeros from bit `used` on.
 fn padding_zero(section: &mut [u8], first: usize, used: usize) {
     let mut bits = bits_of(&section[first - 1..]);
@@ -46,20 +55,22 @@ fn zero_plus(section: &mut [u8], first: usize, last: usize) {
 }
 
 /// An accepted message as it is written again, from its own octets alone:
-/// "Padding bits are ignored on reading and written zero", GDS octets "29-32
-/// reserved, ignored on reading, written zero", and "Minus zero reads as 0 and is
-/// written as plus zero; D, inside the carried PDS, keeps its octets".
+/// "Padding bits are ignored on reading and written zero", GDS octets "reserved,
+/// ignored on reading, written zero", those of its kind, and "Minus zero reads as 0
+/// and is written as plus zero; D, inside the carried PDS, keeps its octets".
 pub fn cleaned(message: &[u8], lent: &Lent) -> Vec<u8> {
     let header = header(message, lent);
     assert_eq!(header.reply, 0);
     let places = header.places;
     let mut gds = part_of(message, places.gds).to_vec();
     if !gds.is_empty() {
-        zero_plus(&mut gds, 11, 13);
-        zero_plus(&mut gds, 14, 16);
-        zero_plus(&mut gds, 18, 20);
-        zero_plus(&mut gds, 21, 23);
-        gds[28..32].fill(0);
+        for &(first, last, what) in layout_of(header.grid.kind) {
+            match what {
+                What::Latitude(_) | What::Longitude(_) => zero_plus(&mut gds, first, last),
+                What::Reserved => gds[first - 1..last].fill(0),
+                What::Number(_) => {}
+            }
+        }
     }
     let mut bms = part_of(message, places.bms).to_vec();
     if header.bitmap == BitmapKind::Carried {

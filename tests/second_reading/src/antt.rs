@@ -2,7 +2,10 @@
 //! language's side may choose to change stands in this module alone.
 
 use crate::cases::{CheckCase, PackCase, ReadCase, WriteCase};
-use crate::grid::{grid_outside_rules, place_of, points_in_row, to_gds};
+use crate::grid::{
+    grid_outside_rules, of_no_kind, place_of, points_in_row, to_gds, GAUSSIAN, LAMBERT, LAT_LON,
+    MERCATOR, POLAR,
+};
 use crate::{
     bitmap_in_force, check, display, pack, read, section, write, BitmapKind, Form, Grid, Header,
     Lent, Part, Parts, Reply, Rows, Source,
@@ -79,21 +82,48 @@ fn lent(lent: &Lent) -> String {
     )
 }
 
-fn grid(grid: &Grid) -> String {
-    let edges = format!(
-        "record {{ la2 = {}; lo2 = {}; di = {}; dj = {} }}",
-        value(grid.la2),
-        value(grid.lo2),
-        grid.di,
-        grid.dj
+/// What a grid has by its kind.
+fn geometry(grid: &Grid) -> String {
+    let Grid { di, dj, dx, dy, .. } = grid;
+    let (la2, lo2) = (value(grid.la2), value(grid.lo2));
+    let edges = format!("record {{ la2 = {la2}; lo2 = {lo2}; di = {di}; dj = {dj} }}");
+    let plane = format!(
+        "record {{ lov = {}; dx = {dx}; dy = {dy}; centre = {} }}",
+        value(grid.lov),
+        grid.centre
     );
     let thinned = |start| format!("Thinned (record {{ edges = {edges}; start = {start} }})");
-    let geometry = match grid.rows {
-        Rows::Even => format!("LatLon ({edges})"),
-        Rows::FromEquator => thinned("Equator"),
-        Rows::FromPole => thinned("Pole"),
-        Rows::Neither => thinned("Neither"),
-    };
+    if of_no_kind(grid) {
+        return thinned("Neither");
+    }
+    match (grid.kind, grid.rows) {
+        (LAT_LON, Rows::Even) => format!("LatLon ({edges})"),
+        (LAT_LON, Rows::FromEquator) => thinned("Equator"),
+        (LAT_LON, Rows::FromPole) => thinned("Pole"),
+        (LAT_LON, Rows::Neither) => thinned("Neither"),
+        (MERCATOR, _) => format!(
+            "Mercator (record {{ la2 = {la2}; lo2 = {lo2}; latin = {}; di = {dx}; dj = {dy} }})",
+            value(grid.latin1)
+        ),
+        (LAMBERT, _) => format!(
+            "Lambert (record {{ plane = {plane}; latin1 = {}; latin2 = {}; «pole_la» = {}; \
+             «pole_lo» = {} }})",
+            value(grid.latin1),
+            value(grid.latin2),
+            value(grid.pole_la),
+            value(grid.pole_lo)
+        ),
+        (GAUSSIAN, _) => format!(
+            "Gaussian (record {{ la2 = {la2}; lo2 = {lo2}; di = {di}; circles = {} }})",
+            grid.circles
+        ),
+        (POLAR, _) => format!("Polar ({plane})"),
+        (kind, _) => panic!("no kind {kind}"),
+    }
+}
+
+fn grid(grid: &Grid) -> String {
+    let geometry = geometry(grid);
     format!(
         "record {{ ni = {}; nj = {}; la1 = {}; lo1 = {}; flags = {}; scan = {}; geometry = {geometry} }}",
         grid.ni,

@@ -7,12 +7,15 @@
 
 use crate::bits::{bits_of_number, octets_of};
 use crate::check::whole_reference;
-use crate::grid::{from_catalogue, points, to_gds};
+use crate::grid::{
+    from_catalogue, layout_of, length_of, own_figures, points, to_gds, Line, What, GAUSSIAN, KINDS,
+    LAMBERT, LAT_LON, MERCATOR, POLAR,
+};
 use crate::pack::reference_of;
 use crate::read::header;
 use crate::time::days_in;
 use crate::write::write;
-use crate::{BitmapKind, Form, Grid, Lent, Parts, Rows, Source};
+use crate::{BitmapKind, Figure, Form, Grid, Lent, Parts, Rows, Source, FIGURES};
 
 /// A small random number generator (splitmix64).
 pub struct Rng(u64);
@@ -95,12 +98,18 @@ pub const WRITE_REPLIES: [u32; 8] = [5, 6, 7, 9, 10, 11, 13, 14];
 pub const CHECK_REPLIES: [u32; 19] = [
     1, 2, 3, 4, 20, 21, 22, 23, 6, 7, 8, 9, 10, 11, 12, 15, 16, 17, 18,
 ];
-/// What the checker's cases aim at: its own replies twice as often, and 6, whose
-/// damage is as often none.
-const CHECK_AIMS: [u32; 24] = [
-    1, 2, 3, 15, 16, 17, 18, 4, 20, 21, 22, 23, 6, 7, 8, 9, 15, 16, 17, 18, 10, 11, 6, 12,
-];
 pub const PACK_REPLIES: [u32; 11] = [5, 18, 15, 11, 19, 6, 7, 9, 10, 13, 14];
+/// What the cases aim at: each function's replies, and 8 and 9 more often, which judge
+/// five kinds of grid and the octants; of the checker its own replies twice as often, and
+/// 6, whose damage is as often none.
+const READ_AIMS: [u32; 22] = [
+    1, 2, 8, 3, 4, 9, 20, 21, 8, 22, 23, 9, 6, 7, 8, 9, 10, 11, 8, 12, 14, 9,
+];
+const WRITE_AIMS: [u32; 11] = [5, 9, 6, 7, 9, 10, 11, 9, 13, 14, 9];
+const CHECK_AIMS: [u32; 26] = [
+    1, 2, 3, 15, 16, 17, 18, 4, 20, 8, 21, 22, 23, 6, 7, 8, 9, 15, 16, 17, 18, 10, 11, 9, 6, 12,
+];
+const PACK_AIMS: [u32; 13] = [5, 18, 9, 15, 11, 19, 6, 9, 7, 9, 10, 13, 14];
 
 /// How many points the fields of a case may have.
 #[derive(Clone, Copy, PartialEq, Eq)]
@@ -228,8 +237,30 @@ fn edgy(rng: &mut Rng, most: i64) -> i64 {
     rng.pick(&[any, any, any, small, 0, most, -most])
 }
 
+/// Whether 8 or 9 are aimed at, which judge a GDS and a grid.
+fn grid_judged(aims: &[u32]) -> bool {
+    aims.contains(&8) || aims.contains(&9)
+}
+
+/// A kind of grid: latitude/longitude more often than not, but where grids are judged.
+fn some_grid_kind(rng: &mut Rng, aims: &[u32]) -> u8 {
+    match rng.below([20, 12][grid_judged(aims) as usize]) {
+        0 | 1 => MERCATOR,
+        2 | 3 => LAMBERT,
+        4 | 5 => GAUSSIAN,
+        6 | 7 => POLAR,
+        _ => LAT_LON,
+    }
+}
+
+/// A step in metres, of three octets.
+fn some_metres(rng: &mut Rng) -> u32 {
+    let any = rng.below(1 << 24) as u32;
+    rng.pick(&[any, any, 81_271, 0, 1, 1 << 23, (1 << 24) - 1])
+}
+
 /// A grid of 1 to 30 points that keeps the rules.
-fn sound_grid(rng: &mut Rng) -> Grid {
+fn sound_grid(rng: &mut Rng, aims: &[u32]) -> Grid {
     let (mut ni, mut nj) = (1 + rng.below(6), 1 + rng.below(6));
     if rng.chance(40) {
         (ni, nj) = (1 + rng.below(3), 1 + rng.below(3));
@@ -257,7 +288,9 @@ fn sound_grid(rng: &mut Rng) -> Grid {
     }
     let any_di = rng.between(0, 65_535) as u16;
     let any_dj = rng.between(0, 65_535) as u16;
-    Grid {
+    let any_circles = rng.between(0, 65_534) as u16;
+    let grid = Grid {
+        kind: some_grid_kind(rng, aims),
         ni: ni as u16,
         nj: nj as u16,
         la1: la1 as i32,
@@ -269,7 +302,17 @@ fn sound_grid(rng: &mut Rng) -> Grid {
         dj: rng.pick(&[any_dj, 1_000, 65_535]),
         scan,
         rows: Rows::Even,
-    }
+        dx: some_metres(rng),
+        dy: some_metres(rng),
+        lov: edgy(rng, 360_000) as i32,
+        latin1: edgy(rng, 90_000) as i32,
+        latin2: edgy(rng, 90_000) as i32,
+        pole_la: edgy(rng, 90_000) as i32,
+        pole_lo: edgy(rng, 360_000) as i32,
+        centre: rng.octet(),
+        circles: rng.pick(&[any_circles, 32, 0, 1, 65_534]),
+    };
+    own_figures(&grid)
 }
 
 /// One of the eight octants.
@@ -346,7 +389,7 @@ fn some_d(rng: &mut Rng) -> i64 {
 /// How often a field is an octant's, in a hundred: more often where 8 and 9 are
 /// aimed at, which judge a GDS and a grid.
 fn octants_in_100(size: Size, aims: &[u32]) -> usize {
-    let judged = aims.contains(&8) || aims.contains(&9);
+    let judged = grid_judged(aims);
     match size {
         Size::Small => 0,
         Size::Short => [8, 40][judged as usize],
@@ -360,7 +403,7 @@ fn some_field(rng: &mut Rng, with_bitmap: bool, size: Size, aims: &[u32]) -> Fie
     let grid = if octant {
         some_octant(rng)
     } else {
-        sound_grid(rng)
+        sound_grid(rng, aims)
     };
     let mut kind = some_kind(rng);
     let mut bits = some_width(rng);
@@ -517,24 +560,20 @@ impl Draft {
     }
 }
 
+/// The octets of a grid, with minus zeros now and then, and anything where they are
+/// reserved.
 fn gds_octets(rng: &mut Rng, grid: &Grid) -> Vec<u8> {
-    let mut gds = match grid.rows {
-        Rows::Even => vec![0, 0, 32, 0, 255, 0],
-        _ => vec![0, 0, 178, 0, 33, 0],
-    };
-    gds.extend(grid.ni.to_be_bytes());
-    gds.extend(grid.nj.to_be_bytes());
-    gds.extend(signed_octets(rng, grid.la1 as i64, 3));
-    gds.extend(signed_octets(rng, grid.lo1 as i64, 3));
-    gds.push(grid.flags);
-    gds.extend(signed_octets(rng, grid.la2 as i64, 3));
-    gds.extend(signed_octets(rng, grid.lo2 as i64, 3));
-    gds.extend(grid.di.to_be_bytes());
-    gds.extend(grid.dj.to_be_bytes());
-    gds.push(grid.scan);
-    let reserved = rng.octets(4);
-    gds.extend(if rng.chance(50) { vec![0; 4] } else { reserved });
-    gds.extend(&to_gds(grid)[32..]);
+    let mut gds = to_gds(grid);
+    let noisy = rng.chance(50);
+    for &(first, last, what) in layout_of(grid.kind) {
+        match what {
+            What::Latitude(figure) | What::Longitude(figure) => {
+                put(&mut gds, first, &signed_octets(rng, figure.of(grid), 3));
+            }
+            What::Reserved if noisy => put(&mut gds, first, &rng.octets(last + 1 - first)),
+            _ => {}
+        }
+    }
     gds
 }
 
@@ -625,8 +664,9 @@ fn widen(rng: &mut Rng, draft: &mut Draft) {
             (255, 257),
         ];
         let (ni, nj): (u16, u16) = rng.pick(&sizes);
-        gds.resize(32, 0);
-        put(gds, 1, &[0, 0, 32, 0, 255]);
+        let length = length_of(gds.get(5).copied().unwrap_or(LAT_LON));
+        gds.resize(length, 0);
+        put(gds, 1, &[0, 0, length as u8, 0, 255]);
         put(gds, 7, &ni.to_be_bytes());
         put(gds, 9, &nj.to_be_bytes());
         put_latitudes(gds);
@@ -877,7 +917,10 @@ fn damage_lengths(rng: &mut Rng, draft: &mut Draft) {
         }
         3 => {
             if let Some(gds) = &mut draft.gds {
-                let length = rng.pick(&[0, 30, 31, 32, 33, 34, 176, 177, 178, 180, 16_777_214]);
+                let lengths = [
+                    0, 30, 31, 32, 33, 34, 40, 42, 44, 176, 177, 178, 180, 16_777_214,
+                ];
+                let length = rng.pick(&lengths);
                 put_length(gds, length);
             }
         }
@@ -947,9 +990,63 @@ fn damage_octant_octets(rng: &mut Rng, gds: &mut [u8]) {
     }
 }
 
+/// A line of a kind's layout, where it has any: mostly one with a bound.
+fn some_line(rng: &mut Rng, kind: u8) -> Option<Line> {
+    let lines = layout_of(kind);
+    let bounded = |line: &Line| {
+        use Figure::{Circles, Ni, Nj};
+        match line.2 {
+            What::Latitude(_) | What::Longitude(_) => true,
+            What::Number(figure) => [Ni, Nj, Circles].contains(&figure),
+            What::Reserved => false,
+        }
+    };
+    let with_bounds: Vec<Line> = lines.iter().copied().filter(bounded).collect();
+    let from = if rng.chance(60) {
+        &with_bounds[..]
+    } else {
+        lines
+    };
+    (!from.is_empty()).then(|| rng.pick(from))
+}
+
+/// Damages a field that the kind in octet 6 has, at or past its bound, or where it has
+/// none at its edges.
+fn damage_field_octets(rng: &mut Rng, gds: &mut [u8]) {
+    let line = some_line(rng, gds[5]);
+    let Some((first, last, what)) = line.filter(|line| line.1 <= gds.len()) else {
+        return;
+    };
+    let sign = rng.pick(&[1, -1]);
+    let signed = |bound: i64| {
+        let mut octets = octets_of(&bits_of_number(bound as u64, 24));
+        octets[0] |= if sign < 0 { 0x80 } else { 0 };
+        octets
+    };
+    let octets = match what {
+        What::Latitude(_) => signed(rng.pick(&[90_001, 90_001, 90_000, 0, 8_388_607])),
+        What::Longitude(_) => signed(rng.pick(&[360_001, 360_001, 360_000, 0, 8_388_607])),
+        What::Number(Figure::Ni | Figure::Nj) => rng.pick(&[[0, 0], [255, 255]]).to_vec(),
+        What::Number(Figure::Circles) => {
+            let any = [rng.octet(), rng.octet()];
+            rng.pick(&[[255, 255], [255, 255], [255, 254], [0, 0], any])
+                .to_vec()
+        }
+        What::Number(_) => vec![rng.pick(&[0, 0x80, 0xFF]); last + 1 - first],
+        What::Reserved => rng.octets(last + 1 - first),
+    };
+    put(gds, first, &octets);
+}
+
 fn damage_grid_octets(rng: &mut Rng, gds: &mut [u8]) {
     if gds.len() == 178 && rng.chance(70) {
         return damage_octant_octets(rng, gds);
+    }
+    if gds[5] == GAUSSIAN && rng.chance(15) {
+        return put(gds, 26, &[0xFF, 0xFF]);
+    }
+    if rng.chance(if gds[5] == LAT_LON { 10 } else { 75 }) {
+        return damage_field_octets(rng, gds);
     }
     let high = rng.pick(&[0, 0x80]);
     let past_latitude = [high | 1, 0x5F, 0x91]; // 90,001
@@ -1125,11 +1222,14 @@ fn damage(rng: &mut Rng, draft: &mut Draft, reply: u32, large: bool) {
                 if rng.chance(30) {
                     // Another length; the one of the other pair among them.
                     let longer = gds.len() + rng.pick(&[2, 4, 6]);
-                    let length = rng.pick(&[longer, longer, 32, 176, 178, 180]);
+                    let length = rng.pick(&[longer, longer, 32, 42, 42, 40, 44, 176, 178, 180]);
                     gds.resize(length, 0);
                     put_length(gds, length);
                 } else if rng.chance(30) {
                     gds[4] = rng.pick(&[33, 255, 0, 32, 34]);
+                } else if rng.chance(40) {
+                    // Another kind, of the same length or not, or a number that is none.
+                    gds[5] = rng.pick(&[0, 1, 3, 4, 5, 2, 6, 10, 13, 50, 90, 255]);
                 } else {
                     gds[3 + rng.below(3)] ^= 1 << rng.below(8);
                 }
@@ -1218,7 +1318,7 @@ pub fn read_case(seed: u64, index: usize, size: Size) -> ReadCase {
     let mut rng = rng_for(seed, 1, index);
     let rng = &mut rng;
     let large = size == Size::Short;
-    let plan = plan(rng, index, &READ_REPLIES);
+    let plan = plan(rng, index, &READ_AIMS);
     let aims: Vec<u32> = match plan {
         Plan::Aimed(one) => vec![one],
         Plan::Twice(one, other) => vec![one, other],
@@ -1289,6 +1389,12 @@ fn parts_of(field: &Field) -> Parts {
     }
 }
 
+fn stray_now_and_then(rng: &mut Rng, parts: &mut Parts) {
+    if let Some(grid) = parts.form.grid.as_mut().filter(|_| rng.chance(15)) {
+        *grid = some_strays(rng, grid);
+    }
+}
+
 fn damage_pds(rng: &mut Rng, pds: &mut Vec<u8>) {
     if pds.len() < 26 {
         // Damaged in this way already.
@@ -1342,7 +1448,58 @@ fn some_rows(rng: &mut Rng) -> Rows {
     rng.pick(&[Rows::Even, Rows::FromEquator, Rows::FromPole, Rows::Neither])
 }
 
+/// Damages a number that the given grid's kind has, at or past its bound; or its kind,
+/// or gives another kind thinned rows.
+fn damage_given_figure(rng: &mut Rng, grid: &mut Grid) {
+    let sign = rng.pick(&[1, -1]);
+    let Some((_, _, what)) = some_line(rng, grid.kind).filter(|_| rng.chance(85)) else {
+        let any = rng.octet();
+        grid.kind = rng.pick(&[0, 1, 3, 4, 5, 2, 6, 255, any]);
+        return;
+    };
+    if rng.chance(10) {
+        grid.rows = some_rows(rng);
+        return;
+    }
+    let wide = rng.pick(&[i32::MIN, i32::MAX, 8_388_608, 16_777_216]) as i64;
+    *grid = match what {
+        What::Latitude(figure) => figure.put(
+            *grid,
+            rng.pick(&[90_001 * sign, 90_001 * sign, 90_000 * sign, wide]),
+        ),
+        What::Longitude(figure) => figure.put(
+            *grid,
+            rng.pick(&[360_001 * sign, 360_001 * sign, 360_000, wide]),
+        ),
+        What::Number(figure @ (Figure::Dx | Figure::Dy)) => {
+            let numbers = [1 << 24, 1 << 24, (1 << 24) - 1, 1 << 31, u32::MAX.into()];
+            figure.put(*grid, rng.pick(&numbers))
+        }
+        What::Number(figure) => figure.put(*grid, rng.pick(&[0, figure.range().1])),
+        What::Reserved if grid.kind == GAUSSIAN => Figure::Circles.put(*grid, 65_535),
+        What::Reserved => *grid,
+    };
+}
+
+/// Numbers that the grid's kind does not have, and that are not looked at.
+fn some_strays(rng: &mut Rng, grid: &Grid) -> Grid {
+    let mut stray = *grid;
+    for figure in FIGURES {
+        let (least, most) = figure.range();
+        let any = rng.between(least, most);
+        stray = figure.put(stray, rng.pick(&[any, least, most, 0]));
+    }
+    let owned = layout_of(grid.kind).iter().filter_map(|line| match line.2 {
+        What::Number(figure) | What::Latitude(figure) | What::Longitude(figure) => Some(figure),
+        What::Reserved => None,
+    });
+    owned.fold(stray, |stray, figure| figure.put(stray, figure.of(grid)))
+}
+
 fn damage_given_grid(rng: &mut Rng, grid: &mut Grid) {
+    if rng.chance(if grid.kind == LAT_LON { 7 } else { 75 }) {
+        return damage_given_figure(rng, grid);
+    }
     if rng.chance(if grid.rows == Rows::Even { 7 } else { 80 }) {
         return damage_given_octant(rng, grid);
     }
@@ -1504,12 +1661,13 @@ fn blind_parts(rng: &mut Rng, parts: &mut Parts) {
         }
         3 => {
             if let Some(grid) = &mut parts.form.grid {
-                match rng.below(6) {
+                match rng.below(7) {
                     0 => grid.ni = rng.below(8) as u16,
                     1 => grid.nj = rng.below(8) as u16,
                     2 => grid.scan = rng.octet(),
                     3 => grid.la1 = rng.between(-100_000, 100_000) as i32,
                     4 => grid.lo2 = rng.between(-400_000, 400_000) as i32,
+                    5 => grid.kind = rng.pick(&[0, 1, 3, 4, 5, 2, 6, 255]),
                     _ => grid.rows = some_rows(rng),
                 }
             }
@@ -1549,7 +1707,7 @@ fn shorten<A, B>(rng: &mut Rng, size: Size, one: &mut Vec<A>, other: &mut Vec<B>
 pub fn write_case(seed: u64, index: usize, size: Size) -> WriteCase {
     let mut rng = rng_for(seed, 2, index);
     let rng = &mut rng;
-    let plan = plan(rng, index, &WRITE_REPLIES);
+    let plan = plan(rng, index, &WRITE_AIMS);
     let aims: Vec<u32> = match plan {
         Plan::Aimed(one) => vec![one],
         Plan::Twice(one, other) => vec![one, other],
@@ -1557,6 +1715,7 @@ pub fn write_case(seed: u64, index: usize, size: Size) -> WriteCase {
     };
     let field = some_field(rng, false, size, &aims);
     let mut parts = parts_of(&field);
+    stray_now_and_then(rng, &mut parts);
     shorten(rng, size, &mut parts.values, &mut parts.marks);
     for &aim in &aims {
         damage_parts(rng, &mut parts, aim);
@@ -1700,7 +1859,7 @@ pub fn check_case(seed: u64, index: usize, size: Size) -> CheckCase {
 pub fn pack_case(seed: u64, index: usize, size: Size) -> PackCase {
     let mut rng = rng_for(seed, 4, index);
     let rng = &mut rng;
-    let plan = plan(rng, index, &PACK_REPLIES);
+    let plan = plan(rng, index, &PACK_AIMS);
     let aims: Vec<u32> = match plan {
         Plan::Aimed(one) => vec![one],
         Plan::Twice(one, other) => vec![one, other],
@@ -1711,6 +1870,7 @@ pub fn pack_case(seed: u64, index: usize, size: Size) -> PackCase {
     let pds = sound_pds(rng, d, true, field.kind != BitmapKind::Without);
     let mut parts = parts_of(&field);
     parts.pds = pds;
+    stray_now_and_then(rng, &mut parts);
     shorten(rng, size, &mut parts.values, &mut parts.marks);
 
     // Source numbers near one another, or far apart.
@@ -1899,4 +2059,21 @@ pub fn year_met(pds: &[u8], reply: u32) -> Option<usize> {
 /// no room for them.
 pub fn pds_in(message: &[u8]) -> &[u8] {
     message.get(8..36).unwrap_or(&[])
+}
+
+/// What R-4 added, as a case can meet it.
+pub const KINDS_MET: [&str; 3] = ["taken", "refused by 8", "refused by 9"];
+
+/// Which of the four kinds a grid in numbers or a GDS's octet 6 is, and which of these a
+/// reply to it is.
+pub fn kind_met(kind: u8, reply: u32) -> Option<(usize, usize)> {
+    let which = KINDS[1..].iter().position(|&own| own == kind)?;
+    let how = [0, 8, 9].iter().position(|&met| met == reply)?;
+    Some((which, how))
+}
+
+/// GDS octet 6 of a message that gets 0, 8 or 9, where it has a GDS.
+pub fn kind_in(message: &[u8]) -> Option<u8> {
+    let pds = 256 * *message.get(9)? as usize + *message.get(10)? as usize;
+    (message.get(15)? & 0x80 != 0).then_some(*message.get(8 + pds + 5)?)
 }

@@ -1,7 +1,162 @@
 //! Grids: the catalogue, the rules for a grid's numbers, and the chart.
 
 use crate::bits::{bit, bits_of_number, bits_of_signed, number_in, octet, octets_of, signed_in};
-use crate::{Grid, Rows};
+use crate::Figure::*;
+use crate::{Figure, Grid, Rows};
+
+/// The kinds of grid, by document 003's table 6 for GDS octet 6.
+pub const LAT_LON: u8 = 0;
+pub const MERCATOR: u8 = 1;
+pub const LAMBERT: u8 = 3;
+pub const GAUSSIAN: u8 = 4;
+pub const POLAR: u8 = 5;
+
+/// All of them.
+pub const KINDS: [u8; 5] = [LAT_LON, MERCATOR, LAMBERT, GAUSSIAN, POLAR];
+
+/// What stands in some octets of a GDS.
+#[derive(Clone, Copy, PartialEq, Eq, Debug)]
+pub enum What {
+    /// A number without a sign.
+    Number(Figure),
+    /// A sign bit and a magnitude; "Latitude magnitude is at most 90,000".
+    Latitude(Figure),
+    /// A sign bit and a magnitude; "longitude at most 360,000".
+    Longitude(Figure),
+    /// "ignored on reading, written zero"
+    Reserved,
+}
+
+use What::{Latitude, Longitude, Number, Reserved};
+
+/// A line of a layout: the first octet, the last one, what stands in them.
+pub type Line = (usize, usize, What);
+
+/// Document 003, "LATITUDE/LONGITUDE GRIDS INCLUDING GAUSSIAN (GDS Octets 7 - 32)",
+/// and document 01: "Ni 7-8; Nj 9-10; La1 11-13; Lo1 14-16; resolution flags 17; La2
+/// 18-20; Lo2 21-23; Di 24-25; Dj 26-27; scanning flags 28; 29-32 reserved".
+const LAT_LON_LAYOUT: &[Line] = &[
+    (7, 8, Number(Ni)),
+    (9, 10, Number(Nj)),
+    (11, 13, Latitude(La1)),
+    (14, 16, Longitude(Lo1)),
+    (17, 17, Number(Flags)),
+    (18, 20, Latitude(La2)),
+    (21, 23, Longitude(Lo2)),
+    (24, 25, Number(Di)),
+    (26, 27, Number(Dj)),
+    (28, 28, Number(Scan)),
+    (29, 32, Reserved),
+];
+
+/// The same page, "Gaussian Grid: N - number of latitude circles between a pole and
+/// the equator" in octets 26-27.
+const GAUSSIAN_LAYOUT: &[Line] = &[
+    (7, 8, Number(Ni)),
+    (9, 10, Number(Nj)),
+    (11, 13, Latitude(La1)),
+    (14, 16, Longitude(Lo1)),
+    (17, 17, Number(Flags)),
+    (18, 20, Latitude(La2)),
+    (21, 23, Longitude(Lo2)),
+    (24, 25, Number(Di)),
+    (26, 27, Number(Circles)),
+    (28, 28, Number(Scan)),
+    (29, 32, Reserved),
+];
+
+/// "POLAR STEREOGRAPHIC GRIDS (GDS Octets 7 - 32)".
+const POLAR_LAYOUT: &[Line] = &[
+    (7, 8, Number(Ni)),
+    (9, 10, Number(Nj)),
+    (11, 13, Latitude(La1)),
+    (14, 16, Longitude(Lo1)),
+    (17, 17, Number(Flags)),
+    (18, 20, Longitude(Lov)),
+    (21, 23, Number(Dx)),
+    (24, 26, Number(Dy)),
+    (27, 27, Number(Centre)),
+    (28, 28, Number(Scan)),
+    (29, 32, Reserved),
+];
+
+/// "LAMBERT CONFORMAL SECANT OR TANGENT CONE GRIDS (GDS Octets 7 - 42)".
+const LAMBERT_LAYOUT: &[Line] = &[
+    (7, 8, Number(Ni)),
+    (9, 10, Number(Nj)),
+    (11, 13, Latitude(La1)),
+    (14, 16, Longitude(Lo1)),
+    (17, 17, Number(Flags)),
+    (18, 20, Longitude(Lov)),
+    (21, 23, Number(Dx)),
+    (24, 26, Number(Dy)),
+    (27, 27, Number(Centre)),
+    (28, 28, Number(Scan)),
+    (29, 31, Latitude(Latin1)),
+    (32, 34, Latitude(Latin2)),
+    (35, 37, Latitude(PoleLa)),
+    (38, 40, Longitude(PoleLo)),
+    (41, 42, Reserved),
+];
+
+/// "MERCATOR GRIDS (GDS Octets 7 - 42)".
+const MERCATOR_LAYOUT: &[Line] = &[
+    (7, 8, Number(Ni)),
+    (9, 10, Number(Nj)),
+    (11, 13, Latitude(La1)),
+    (14, 16, Longitude(Lo1)),
+    (17, 17, Number(Flags)),
+    (18, 20, Latitude(La2)),
+    (21, 23, Longitude(Lo2)),
+    (24, 26, Latitude(Latin1)),
+    (27, 27, Reserved),
+    (28, 28, Number(Scan)),
+    (29, 31, Number(Dx)),
+    (32, 34, Number(Dy)),
+    (35, 42, Reserved),
+];
+
+/// The layout of a kind; no lines of a number that is no kind's.
+pub fn layout_of(kind: u8) -> &'static [Line] {
+    match kind {
+        LAT_LON => LAT_LON_LAYOUT,
+        MERCATOR => MERCATOR_LAYOUT,
+        LAMBERT => LAMBERT_LAYOUT,
+        GAUSSIAN => GAUSSIAN_LAYOUT,
+        POLAR => POLAR_LAYOUT,
+        _ => &[],
+    }
+}
+
+/// R-4: "GDS 42 octets for the first two, else 32", the first two being Mercator and
+/// Lambert.
+pub fn length_of(kind: u8) -> usize {
+    match kind {
+        MERCATOR | LAMBERT => 42,
+        _ => 32,
+    }
+}
+
+/// Numbers that stand for no grid: a kind that is none of the five, or thinned rows
+/// with another kind than 0. 9 refuses it; it has no rows and no points.
+pub fn of_no_kind(grid: &Grid) -> bool {
+    !KINDS.contains(&grid.kind) || (grid.kind != LAT_LON && grid.rows != Rows::Even)
+}
+
+/// The grid without the numbers that its kind does not have.
+pub fn own_figures(grid: &Grid) -> Grid {
+    let mut own = Grid {
+        kind: grid.kind,
+        rows: grid.rows,
+        ..Grid::default()
+    };
+    for &(_, _, what) in layout_of(grid.kind) {
+        if let Number(figure) | Latitude(figure) | Longitude(figure) = what {
+            own = figure.put(own, figure.of(grid));
+        }
+    }
+    own
+}
 
 /// "Without a GDS, PDS octet 7 picks from this catalogue; resolution flags are
 /// 128". One line per line of the table, in its order: number, Ni, Nj, La1, Lo1,
@@ -134,6 +289,7 @@ fn octant(line: &[i32; 5]) -> Grid {
         } else {
             Rows::FromPole
         },
+        ..Grid::default()
     }
 }
 
@@ -155,7 +311,7 @@ pub fn from_catalogue(number: u8) -> Option<Grid> {
         di: line[7] as u16,
         dj: line[8] as u16,
         scan: line[9] as u8,
-        rows: Rows::Even,
+        ..Grid::default()
     })
 }
 
@@ -174,53 +330,47 @@ fn rows_listed(gds: &[u8]) -> Rows {
     }
 }
 
-/// The grid that a GDS of 32 or 178 octets describes: "Ni 7-8; Nj 9-10; La1 11-13;
-/// Lo1 14-16; resolution flags 17; La2 18-20; Lo2 21-23; Di 24-25; Dj 26-27;
-/// scanning flags 28".
+/// The grid that a GDS describes, by the layout of its kind. Of a thinned one R-1:
+/// "octets 33-178 list the row counts".
 pub fn from_gds(gds: &[u8]) -> Grid {
-    Grid {
-        ni: number_in(gds, 7, 8) as u16,
-        nj: number_in(gds, 9, 10) as u16,
-        la1: signed_in(gds, 11, 13) as i32,
-        lo1: signed_in(gds, 14, 16) as i32,
-        flags: octet(gds, 17),
-        la2: signed_in(gds, 18, 20) as i32,
-        lo2: signed_in(gds, 21, 23) as i32,
-        di: number_in(gds, 24, 25) as u16,
-        dj: number_in(gds, 26, 27) as u16,
-        scan: octet(gds, 28),
-        rows: if gds.len() == 178 {
-            rows_listed(gds)
-        } else {
-            Rows::Even
-        },
+    let mut grid = Grid {
+        kind: octet(gds, 6),
+        ..Grid::default()
+    };
+    for &(first, last, what) in layout_of(grid.kind) {
+        grid = match what {
+            Number(figure) => figure.put(grid, number_in(gds, first, last) as i64),
+            Latitude(figure) | Longitude(figure) => figure.put(grid, signed_in(gds, first, last)),
+            Reserved => grid,
+        };
     }
+    if gds.len() == 178 {
+        grid.rows = rows_listed(gds);
+    }
+    grid
 }
 
-/// The GDS of a grid: "length 1-3 is 32; octet 4 is 0; octet 5 is 255; octet 6
-/// is 0; ... 29-32 reserved, ... written zero". Of a thinned one R-1: "The GDS is
-/// 178 octets, octet 5 is 33, and octets 33-178 list the row counts".
+/// The GDS of a grid that 9 does not refuse: its length in octets 1-3, "octet 4 is 0;
+/// octet 5 is 255", octet 6 its kind, and the layout of its kind. Of a thinned one R-1:
+/// "The GDS is 178 octets, octet 5 is 33, and octets 33-178 list the row counts".
 pub fn to_gds(grid: &Grid) -> Vec<u8> {
     let (length, octet_5) = match grid.rows {
-        Rows::Even => (32, 255),
+        Rows::Even => (length_of(grid.kind), 255),
         _ => (178, 33),
     };
     let mut bits = Vec::new();
-    bits.extend(bits_of_number(length, 24));
+    bits.extend(bits_of_number(length as u64, 24));
     bits.extend(bits_of_number(0, 8));
     bits.extend(bits_of_number(octet_5, 8));
-    bits.extend(bits_of_number(0, 8));
-    bits.extend(bits_of_number(grid.ni as u64, 16));
-    bits.extend(bits_of_number(grid.nj as u64, 16));
-    bits.extend(bits_of_signed(grid.la1 as i64, 24));
-    bits.extend(bits_of_signed(grid.lo1 as i64, 24));
-    bits.extend(bits_of_number(grid.flags as u64, 8));
-    bits.extend(bits_of_signed(grid.la2 as i64, 24));
-    bits.extend(bits_of_signed(grid.lo2 as i64, 24));
-    bits.extend(bits_of_number(grid.di as u64, 16));
-    bits.extend(bits_of_number(grid.dj as u64, 16));
-    bits.extend(bits_of_number(grid.scan as u64, 8));
-    bits.extend(bits_of_number(0, 32));
+    bits.extend(bits_of_number(grid.kind as u64, 8));
+    for &(first, last, what) in layout_of(grid.kind) {
+        let width = 8 * (last - first + 1);
+        bits.extend(match what {
+            Number(figure) => bits_of_number(figure.of(grid) as u64, width),
+            Latitude(figure) | Longitude(figure) => bits_of_signed(figure.of(grid), width),
+            Reserved => vec![false; width],
+        });
+    }
     for count in counts(grid.rows) {
         bits.extend(bits_of_number(count as u64, 16));
     }
@@ -229,18 +379,25 @@ pub fn to_gds(grid: &Grid) -> Vec<u8> {
 
 /// "points n = Ni x Nj"; thinned, "n is the sum of the counts"
 pub fn points(grid: &Grid) -> u64 {
+    if of_no_kind(grid) {
+        return 0;
+    }
     match grid.rows {
         Rows::Even => grid.ni as u64 * grid.nj as u64,
         rows => counts(rows).iter().map(|&count| count as u64).sum(),
     }
 }
 
-/// 9: "Ni, Nj, n, a latitude, a longitude or the scan test outside the rules"
+/// 9: "Ni, Nj, n, a latitude, a longitude or the scan test outside the rules"; R-4: "9
+/// covers 01's bounds and a missing Gaussian N; other fields are carried".
 pub fn grid_outside_rules(grid: &Grid) -> bool {
+    if of_no_kind(grid) {
+        return true;
+    }
     // R-1: "a thinned GDS that isn't by value one of the eight, reserved octets
     // aside, is 9"
     if grid.rows != Rows::Even {
-        return !OCTANTS.iter().any(|line| octant(line) == *grid);
+        return !OCTANTS.iter().any(|line| octant(line) == own_figures(grid));
     }
     // "Ni, Nj: least 1, most 65,534"
     if grid.ni < 1 || grid.ni > 65_534 || grid.nj < 1 || grid.nj > 65_534 {
@@ -250,16 +407,27 @@ pub fn grid_outside_rules(grid: &Grid) -> bool {
     if points(grid) < 1 || points(grid) > 65_536 {
         return true;
     }
-    // "Latitude magnitude is at most 90,000, longitude at most 360,000."
-    for latitude in [grid.la1, grid.la2] {
-        if (latitude as i64).abs() > 90_000 {
+    for &(first, last, what) in layout_of(grid.kind) {
+        let outside = match what {
+            // "Latitude magnitude is at most 90,000, longitude at most 360,000."
+            Latitude(figure) => figure.of(grid).abs() > 90_000,
+            Longitude(figure) => figure.of(grid).abs() > 360_000,
+            // a step in metres is given in 32 bits, and has three octets
+            Number(figure) => figure.of(grid) >= 1 << (8 * (last - first + 1)),
+            Reserved => false,
+        };
+        if outside {
             return true;
         }
     }
-    for longitude in [grid.lo1, grid.lo2] {
-        if (longitude as i64).abs() > 360_000 {
-            return true;
-        }
+    // "a missing Gaussian N": all ones
+    if grid.kind == GAUSSIAN && grid.circles == 65_535 {
+        return true;
+    }
+    // R-4: "The scan test against latitudes holds for Mercator and Gaussian only", of
+    // the four; on the other two nothing is tested.
+    if grid.kind == LAMBERT || grid.kind == POLAR {
+        return false;
     }
     // "If Nj > 1, rows running north need La2 above La1, else La2 below La1;
     // with Nj = 1 this is not tested."
@@ -289,6 +457,9 @@ fn turned(step: u64, count: u64, runs_back: bool) -> u64 {
 
 /// How many points a row of the chart has; none where there is no such row.
 pub fn points_in_row(grid: &Grid, row: u32) -> u32 {
+    if of_no_kind(grid) {
+        return 0;
+    }
     if grid.rows == Rows::Even {
         return if row < grid.nj as u32 {
             grid.ni as u32
@@ -306,8 +477,12 @@ pub fn points_in_row(grid: &Grid, row: u32) -> u32 {
 }
 
 /// The chart row and column of a grid point, or nothing for a point that the
-/// grid does not have.
+/// grid does not have. R-4: on Lambert and polar grids "chart row 0 is the greatest
+/// y", and bit 2 says whether rows run towards it.
 pub fn place_of(grid: &Grid, point: u32) -> Option<(u32, u32)> {
+    if of_no_kind(grid) {
+        return None;
+    }
     if grid.rows != Rows::Even {
         return place_of_thinned(grid, point);
     }
@@ -377,6 +552,9 @@ fn point_at_thinned(grid: &Grid, row: u32, column: u32) -> u32 {
 /// The (row, column) of each point in message order, written out by walking the
 /// chart as the flags say. The listing uses this one.
 pub fn layout(grid: &Grid) -> Vec<(u32, u32)> {
+    if of_no_kind(grid) {
+        return Vec::new();
+    }
     // "The chart's row 0 is north and column 0 is west"
     let nj = match grid.rows {
         Rows::Even => grid.nj as usize,
@@ -659,6 +837,160 @@ mod tests {
                     assert_eq!(point_at(&grid, row, u32::MAX), None);
                 }
             }
+        }
+    }
+
+    /// A grid of each kind that the rules take, each of its numbers another one.
+    fn of_each_kind() -> [Grid; 5] {
+        KINDS.map(|kind| {
+            let all = Grid {
+                kind,
+                ni: 2,
+                nj: 3,
+                la1: 50_000,
+                lo1: -2_000,
+                flags: 128,
+                la2: 51_000,
+                lo2: -1_000,
+                di: 2_813,
+                dj: 1_000,
+                scan: 64,
+                rows: Rows::Even,
+                dx: 81_271,
+                dy: 16_777_215,
+                lov: -95_000,
+                latin1: 33_000,
+                latin2: -45_000,
+                pole_la: -90_000,
+                pole_lo: 360_000,
+                centre: 192,
+                circles: 32,
+            };
+            own_figures(&all)
+        })
+    }
+
+    /// Document 003: "GDS Octets 7 - 32" or "7 - 42", each octet once.
+    #[test]
+    fn each_layout_is_whole() {
+        for kind in KINDS {
+            let mut next = 7;
+            for &(first, last, _) in layout_of(kind) {
+                assert_eq!(first, next);
+                next = last + 1;
+            }
+            assert_eq!(next, length_of(kind) + 1);
+        }
+    }
+
+    #[test]
+    fn each_kind_comes_back() {
+        for grid in of_each_kind() {
+            let gds = to_gds(&grid);
+            assert_eq!(gds.len(), length_of(grid.kind));
+            assert_eq!(gds[3..6], [0, 255, grid.kind]);
+            assert_eq!(from_gds(&gds), grid);
+            assert!(!grid_outside_rules(&grid));
+        }
+    }
+
+    #[test]
+    fn edges_of_each_field() {
+        for good in of_each_kind() {
+            // one row: no scan test
+            let good = Grid { nj: 1, ..good };
+            let refused = |figure: Figure, number: i64| {
+                let grid = figure.put(good, number);
+                grid_outside_rules(&grid)
+            };
+            for &(_, _, what) in layout_of(good.kind) {
+                let (figure, bound) = match what {
+                    Latitude(figure) => (figure, 90_000),
+                    Longitude(figure) => (figure, 360_000),
+                    Number(figure @ (Dx | Dy)) => {
+                        assert!(!refused(figure, 0) && !refused(figure, 16_777_215));
+                        assert!(refused(figure, 16_777_216) && refused(figure, u32::MAX.into()));
+                        continue;
+                    }
+                    Number(figure @ (Ni | Nj | Circles)) => {
+                        assert!(refused(figure, 65_535));
+                        assert!(!refused(figure, 1));
+                        continue;
+                    }
+                    Number(figure) => {
+                        assert!(!refused(figure, 0) && !refused(figure, figure.range().1));
+                        continue;
+                    }
+                    Reserved => continue,
+                };
+                for sign in [1, -1] {
+                    assert!(!refused(figure, sign * bound), "{figure:?}");
+                    assert!(refused(figure, sign * (bound + 1)), "{figure:?}");
+                }
+                assert!(refused(figure, i32::MIN.into()) && refused(figure, i32::MAX.into()));
+            }
+            // what it does not have is not looked at
+            for figure in crate::FIGURES {
+                let other = figure.put(good, figure.range().1);
+                if own_figures(&other) == good {
+                    assert!(!grid_outside_rules(&other), "{figure:?}");
+                }
+            }
+        }
+    }
+
+    /// R-4: "The scan test against latitudes holds for Mercator and Gaussian only", and
+    /// as before for latitude/longitude grids.
+    #[test]
+    fn where_the_scan_test_holds() {
+        for good in of_each_kind() {
+            let turned = Grid { scan: 0, ..good };
+            let tested = [LAT_LON, MERCATOR, GAUSSIAN].contains(&good.kind);
+            assert_eq!(grid_outside_rules(&turned), tested);
+            assert!(!grid_outside_rules(&Grid { nj: 1, ..turned }));
+        }
+    }
+
+    /// The chart is the same function of Ni, Nj and the flags for all kinds.
+    #[test]
+    fn one_chart_for_all_kinds() {
+        for scan in (0..8).map(|k| 32 * k) {
+            let places = |grid: Grid| {
+                let grid = Grid { scan, ..grid };
+                let rows: Vec<u32> = (0..4).map(|row| points_in_row(&grid, row)).collect();
+                for (point, &(row, column)) in layout(&grid).iter().enumerate() {
+                    assert_eq!(place_of(&grid, point as u32), Some((row, column)));
+                    assert_eq!(point_at(&grid, row, column), Some(point as u32));
+                }
+                (layout(&grid), rows, points(&grid))
+            };
+            let [lat_lon, others @ ..] = of_each_kind().map(places);
+            for other in others {
+                assert_eq!(other, lat_lon);
+            }
+        }
+    }
+
+    #[test]
+    fn no_kind_no_points() {
+        let mut none = Vec::new();
+        for grid in of_each_kind() {
+            none.extend([2, 6, 255].map(|kind| Grid { kind, ..grid }));
+            if grid.kind != LAT_LON {
+                let thinned = [Rows::FromEquator, Rows::FromPole, Rows::Neither];
+                none.extend(thinned.map(|rows| Grid { rows, ..grid }));
+            }
+        }
+        for number in 37..=44 {
+            let octant = from_catalogue(number).expect("an octant");
+            none.extend([1, 3, 4, 5, 6].map(|kind| Grid { kind, ..octant }));
+        }
+        for grid in none {
+            assert!(grid_outside_rules(&grid));
+            assert_eq!((points(&grid), layout(&grid).len()), (0, 0));
+            assert_eq!(place_of(&grid, 0), None);
+            assert_eq!(point_at(&grid, 0, 0), None);
+            assert_eq!(points_in_row(&grid, 0), 0);
         }
     }
 }

@@ -3,7 +3,7 @@
 //! This package computes, slowly and literally, what document 01 ("Definition
 //! of the build and its rules") says a GRIB Edition 1 codec must answer, and
 //! what the requests of document 02 that have landed add to it or change in it
-//! (R-1 to R-3). It was written from these documents alone, with the list of
+//! (R-1 to R-4). It was written from these documents alone, with the list of
 //! open points deciding where they leave room for two readings. It shares nothing with the codec it
 //! is used to test: no code, no constants, no tricks. Wherever a person with
 //! paper and pencil would write out bits, the code here writes out bits.
@@ -102,20 +102,184 @@ impl Rows {
     }
 }
 
-/// The numbers of a latitude/longitude grid.
+/// A grid in numbers, of whatever kind: there is a place for each number that some
+/// kind has. What its own kind does not have is 0 where a grid is handed out, and is
+/// not looked at where one is given.
 #[derive(Clone, Copy, PartialEq, Eq, Debug, Default)]
 pub struct Grid {
+    /// GDS octet 6: 0 latitude/longitude, 1 Mercator, 3 Lambert, 4 Gaussian, 5 polar
+    /// stereographic.
+    pub kind: u8,
+    /// Nx of Lambert and polar.
     pub ni: u16,
+    /// Ny of Lambert and polar.
     pub nj: u16,
     pub la1: i32,
     pub lo1: i32,
     pub flags: u8,
     pub la2: i32,
     pub lo2: i32,
+    /// In thousandths of a degree, of latitude/longitude and Gaussian grids.
     pub di: u16,
     pub dj: u16,
     pub scan: u8,
     pub rows: Rows,
+    /// In metres: Dx and Dy of Lambert and polar, Di and Dj of Mercator.
+    pub dx: u32,
+    pub dy: u32,
+    pub lov: i32,
+    /// Latin of Mercator.
+    pub latin1: i32,
+    pub latin2: i32,
+    /// The southern pole of Lambert.
+    pub pole_la: i32,
+    pub pole_lo: i32,
+    /// The projection centre flag.
+    pub centre: u8,
+    /// Gaussian N.
+    pub circles: u16,
+}
+
+/// A number of a grid, by its name, so that a table can tell of it. `kind` and `rows`
+/// are not among them: they say which of the others a grid has.
+#[derive(Clone, Copy, PartialEq, Eq, Debug)]
+pub enum Figure {
+    Ni,
+    Nj,
+    La1,
+    Lo1,
+    Flags,
+    La2,
+    Lo2,
+    Di,
+    Dj,
+    Scan,
+    Dx,
+    Dy,
+    Lov,
+    Latin1,
+    Latin2,
+    PoleLa,
+    PoleLo,
+    Centre,
+    Circles,
+}
+
+/// All of them.
+pub const FIGURES: [Figure; 19] = [
+    Figure::Ni,
+    Figure::Nj,
+    Figure::La1,
+    Figure::Lo1,
+    Figure::Flags,
+    Figure::La2,
+    Figure::Lo2,
+    Figure::Di,
+    Figure::Dj,
+    Figure::Scan,
+    Figure::Dx,
+    Figure::Dy,
+    Figure::Lov,
+    Figure::Latin1,
+    Figure::Latin2,
+    Figure::PoleLa,
+    Figure::PoleLo,
+    Figure::Centre,
+    Figure::Circles,
+];
+
+impl Figure {
+    /// This number of a grid.
+    pub fn of(self, grid: &Grid) -> i64 {
+        match self {
+            Figure::Ni => grid.ni.into(),
+            Figure::Nj => grid.nj.into(),
+            Figure::La1 => grid.la1.into(),
+            Figure::Lo1 => grid.lo1.into(),
+            Figure::Flags => grid.flags.into(),
+            Figure::La2 => grid.la2.into(),
+            Figure::Lo2 => grid.lo2.into(),
+            Figure::Di => grid.di.into(),
+            Figure::Dj => grid.dj.into(),
+            Figure::Scan => grid.scan.into(),
+            Figure::Dx => grid.dx.into(),
+            Figure::Dy => grid.dy.into(),
+            Figure::Lov => grid.lov.into(),
+            Figure::Latin1 => grid.latin1.into(),
+            Figure::Latin2 => grid.latin2.into(),
+            Figure::PoleLa => grid.pole_la.into(),
+            Figure::PoleLo => grid.pole_lo.into(),
+            Figure::Centre => grid.centre.into(),
+            Figure::Circles => grid.circles.into(),
+        }
+    }
+
+    /// The grid with this number, which its place can hold.
+    pub fn put(self, mut grid: Grid, number: i64) -> Grid {
+        match self {
+            Figure::Ni => grid.ni = held(number),
+            Figure::Nj => grid.nj = held(number),
+            Figure::La1 => grid.la1 = held(number),
+            Figure::Lo1 => grid.lo1 = held(number),
+            Figure::Flags => grid.flags = held(number),
+            Figure::La2 => grid.la2 = held(number),
+            Figure::Lo2 => grid.lo2 = held(number),
+            Figure::Di => grid.di = held(number),
+            Figure::Dj => grid.dj = held(number),
+            Figure::Scan => grid.scan = held(number),
+            Figure::Dx => grid.dx = held(number),
+            Figure::Dy => grid.dy = held(number),
+            Figure::Lov => grid.lov = held(number),
+            Figure::Latin1 => grid.latin1 = held(number),
+            Figure::Latin2 => grid.latin2 = held(number),
+            Figure::PoleLa => grid.pole_la = held(number),
+            Figure::PoleLo => grid.pole_lo = held(number),
+            Figure::Centre => grid.centre = held(number),
+            Figure::Circles => grid.circles = held(number),
+        }
+        grid
+    }
+
+    /// The least and the most that its place can hold.
+    pub fn range(self) -> (i64, i64) {
+        match self {
+            Figure::Flags | Figure::Scan | Figure::Centre => (0, u8::MAX.into()),
+            Figure::Ni | Figure::Nj | Figure::Di | Figure::Dj | Figure::Circles => {
+                (0, u16::MAX.into())
+            }
+            Figure::Dx | Figure::Dy => (0, u32::MAX.into()),
+            _ => (i32::MIN.into(), i32::MAX.into()),
+        }
+    }
+
+    /// Its name in short words, as a vector's name has it.
+    pub fn name(self) -> &'static str {
+        match self {
+            Figure::Ni => "ni",
+            Figure::Nj => "nj",
+            Figure::La1 => "la1",
+            Figure::Lo1 => "lo1",
+            Figure::Flags => "resolution",
+            Figure::La2 => "la2",
+            Figure::Lo2 => "lo2",
+            Figure::Di => "di",
+            Figure::Dj => "dj",
+            Figure::Scan => "scan",
+            Figure::Dx => "dx",
+            Figure::Dy => "dy",
+            Figure::Lov => "lov",
+            Figure::Latin1 => "latin1",
+            Figure::Latin2 => "latin2",
+            Figure::PoleLa => "pole-la",
+            Figure::PoleLo => "pole-lo",
+            Figure::Centre => "centre",
+            Figure::Circles => "circles",
+        }
+    }
+}
+
+fn held<T: TryFrom<i64>>(number: i64) -> T {
+    T::try_from(number).unwrap_or_else(|_| panic!("no place for {number}"))
 }
 
 /// No bitmap, one carried in the message, or a stored one with its number.

@@ -4,7 +4,9 @@
 //! '"1 to 12" includes them'.
 
 use crate::bits::{bit, bits_of, number_in, number_of, octet, signed_in};
-use crate::grid::{from_catalogue, from_gds, grid_outside_rules, points};
+use crate::grid::{
+    from_catalogue, from_gds, grid_outside_rules, length_of, points, KINDS, LAT_LON,
+};
 use crate::time::{time_of, time_out_of_range};
 use crate::{BitmapKind, DataNumber, Grid, Header, Lent, Part, Places, Reply};
 
@@ -183,16 +185,22 @@ fn row_7(message: &[u8]) -> bool {
     !has_gds(message) && from_catalogue(octet(pds(message), 7)).is_none()
 }
 
-/// 8: "GDS length or octets 4 to 6 not as above": "length 1-3 is 32; octet 4 is
-/// 0; octet 5 is 255; octet 6 is 0". R-1: "The GDS is 178 octets, octet 5 is 33",
-/// "8 admits this length and octet 5".
+/// 8: "GDS length or octets 4 to 6 not as above": "octet 4 is 0; octet 5 is 255".
+/// R-4: "8 names the accepted types and lengths", and each type has its own. R-1, of
+/// latitude/longitude grids: "The GDS is 178 octets, octet 5 is 33", "8 admits this
+/// length and octet 5".
 fn row_8(message: &[u8]) -> bool {
     if !has_gds(message) {
         return false;
     }
     let gds = gds(message);
-    let admitted = matches!((gds.len(), octet(gds, 5)), (32, 255) | (178, 33));
-    !admitted || octet(gds, 4) != 0 || octet(gds, 6) != 0
+    let kind = octet(gds, 6);
+    let admitted = match octet(gds, 5) {
+        255 => KINDS.contains(&kind) && gds.len() == length_of(kind),
+        33 => kind == LAT_LON && gds.len() == 178,
+        _ => false,
+    };
+    !admitted || octet(gds, 4) != 0
 }
 
 /// "With one, the GDS decides and octet 7 is not compared."

@@ -1,6 +1,6 @@
 //! Every example that document 01 gives, and the cases at each edge; and what R-1
-//! of document 02 says of thinned octants, R-2 of where the lengths went wrong, and
-//! R-3 of the year 100.
+//! of document 02 says of thinned octants, R-2 of where the lengths went wrong, R-3 of
+//! the year 100, and R-4 of the other projections.
 
 use second_reading::*;
 
@@ -40,7 +40,7 @@ fn specimen_grid() -> Grid {
         di: 1_000,
         dj: 1_000,
         scan: 64,
-        rows: Rows::Even,
+        ..Grid::default()
     }
 }
 
@@ -647,6 +647,7 @@ fn an_octant_is_read_and_written() {
         dj: 1_250,
         scan: 64,
         rows: Rows::FromEquator,
+        ..Grid::default()
     };
     assert_eq!(taken.grid, grid);
     let mut out = [0xAA; 232];
@@ -748,4 +749,165 @@ fn what_the_writer_refuses_by_13() {
     assert_eq!(reply(&|p| p.e = 32_768), 11);
     assert_eq!(reply(&|p| p.e = -32_768), 11);
     assert_eq!(reply(&|p| p.e = -32_767), 0);
+}
+
+/// R-4: a message of each kind, 2 x 1 points, no bitmap and constant data.
+const PROJECTIONS: [(&str, usize); 4] = [
+    (
+        "00002A 00 FF 01 0002 0001 80BBDA 000000 80 00BBDA 056AB8 0057E4 00 40
+         07D685 07D686 0000000000000000",
+        42,
+    ),
+    (
+        "00002A 00 FF 03 0002 0001 002F9E 820953 80 817318 013D77 013D78 00 40
+         0061A8 0061A9 000000 000000 0000",
+        42,
+    ),
+    (
+        "000020 00 FF 04 0002 0001 815738 000000 80 015738 057344 0AFD 0020 40 00000000",
+        32,
+    ),
+    (
+        "000020 00 FF 05 0002 0001 00515A 8249F0 80 813880 05D048 05D049 00 40 00000000",
+        32,
+    ),
+];
+
+fn projected(gds: &str) -> Vec<u8> {
+    let mut message = specimen()[..36].to_vec();
+    message[8 + 7] = 0x80;
+    message.extend(from_hex(gds));
+    message.extend(from_hex("00000C 08 0000 00000000 00 00 37373737"));
+    message[6] = message.len() as u8;
+    message
+}
+
+#[test]
+fn each_projection_is_read_and_written() {
+    let grids = [
+        Grid {
+            kind: 1,
+            ni: 2,
+            nj: 1,
+            la1: -48_090,
+            lo1: 0,
+            flags: 128,
+            la2: 48_090,
+            lo2: 355_000,
+            latin1: 22_500,
+            scan: 64,
+            dx: 513_669,
+            dy: 513_670,
+            ..Grid::default()
+        },
+        Grid {
+            kind: 3,
+            ni: 2,
+            nj: 1,
+            la1: 12_190,
+            lo1: -133_459,
+            flags: 128,
+            lov: -95_000,
+            dx: 81_271,
+            dy: 81_272,
+            scan: 64,
+            latin1: 25_000,
+            latin2: 25_001,
+            ..Grid::default()
+        },
+        Grid {
+            kind: 4,
+            ni: 2,
+            nj: 1,
+            la1: -87_864,
+            lo1: 0,
+            flags: 128,
+            la2: 87_864,
+            lo2: 357_188,
+            di: 2_813,
+            circles: 32,
+            scan: 64,
+            ..Grid::default()
+        },
+        Grid {
+            kind: 5,
+            ni: 2,
+            nj: 1,
+            la1: 20_826,
+            lo1: -150_000,
+            flags: 128,
+            lov: -80_000,
+            dx: 381_000,
+            dy: 381_001,
+            scan: 64,
+            ..Grid::default()
+        },
+    ];
+    for ((gds, length), grid) in PROJECTIONS.iter().zip(grids) {
+        let message = projected(gds);
+        assert_eq!(message.len(), 52 + length);
+        let taken = header(&message, &none());
+        assert_eq!((taken.reply, taken.points), (0, 2));
+        assert_eq!(taken.grid, grid);
+        let mut out = vec![0xAA; message.len()];
+        let parts = again::parts_of(&message, &none());
+        assert_eq!(write(&parts, &mut out), (0, message.len() as u32));
+        assert_eq!(out, message);
+    }
+}
+
+#[test]
+fn a_projection_is_refused_by_8_and_9() {
+    let reply = |gds: &str, octet: usize, value: &[u8]| {
+        let mut message = projected(gds);
+        message[36 + octet - 1..][..value.len()].copy_from_slice(value);
+        header(&message, &none()).reply
+    };
+    // "8 names the accepted types and lengths"
+    for (gds, length) in PROJECTIONS {
+        assert_eq!(reply(gds, 4, &[1]), 8);
+        for octet_5 in [0, 33, 254] {
+            assert_eq!(reply(gds, 5, &[octet_5]), 8);
+        }
+        let types: &[u8] = if length == 42 { &[1, 3] } else { &[0, 4, 5] };
+        for octet_6 in 0..=255 {
+            assert_eq!(reply(gds, 6, &[octet_6]) != 8, types.contains(&octet_6));
+        }
+    }
+    // "9 covers 01's bounds and a missing Gaussian N; other fields are carried"
+    let [mercator, lambert, gaussian, polar] = PROJECTIONS.map(|line| line.0);
+    for (gds, latitudes, longitudes, carried) in [
+        (mercator, &[11, 18, 24][..], &[14, 21][..], &[29, 32][..]),
+        (lambert, &[11, 29, 32, 35], &[14, 18, 38], &[21, 24]),
+        (gaussian, &[11, 18], &[14, 21], &[]),
+        (polar, &[11], &[14, 18], &[21, 24]),
+    ] {
+        for sign in [0x00, 0x80] {
+            for &first in latitudes {
+                assert_eq!(reply(gds, first, &[sign | 1, 0x5F, 0x90]), 0);
+                assert_eq!(reply(gds, first, &[sign | 1, 0x5F, 0x91]), 9);
+            }
+            for &first in longitudes {
+                assert_eq!(reply(gds, first, &[sign | 5, 0x7E, 0x40]), 0);
+                assert_eq!(reply(gds, first, &[sign | 5, 0x7E, 0x41]), 9);
+            }
+        }
+        for &first in carried {
+            assert_eq!(reply(gds, first, &[0xFF; 3]), 0);
+        }
+        assert_eq!(reply(gds, 7, &[0, 0]), 9);
+        assert_eq!(reply(gds, 9, &[0xFF, 0xFF]), 9);
+        // "The scan test against latitudes holds for Mercator and Gaussian only"
+        let two_rows = [0x00, 0x02];
+        assert_eq!(reply(gds, 9, &two_rows), 0);
+        let mut message = projected(gds);
+        message[36 + 9] = 2;
+        message[36 + 27] = 0;
+        let tested = [mercator, gaussian].contains(&gds);
+        let told = header(&message, &none()).reply;
+        assert_eq!(told, if tested { 9 } else { 0 });
+    }
+    assert_eq!(reply(gaussian, 26, &[0xFF, 0xFF]), 9);
+    assert_eq!(reply(gaussian, 26, &[0xFF, 0xFE]), 0);
+    assert_eq!(reply(gaussian, 24, &[0xFF, 0xFF]), 0);
 }

@@ -66,12 +66,38 @@ fn written_back_to_the_same_octets() {
     }
 }
 
-/// Each names its own grid in PDS octet 7: the catalogue's is the same by value,
-/// and without the GDS the same points are read.
+/// GDS octet 6, Ni and Nj, as the programs were asked to write them.
 #[test]
-fn the_catalogue_has_their_grids() {
+fn each_kind_is_there() {
+    let mut kinds: Vec<(u8, u16, u16)> = messages()
+        .iter()
+        .map(|(_, message, _)| header(message, &Lent::default()).grid)
+        .map(|grid| (grid.kind, grid.ni, grid.nj))
+        .collect();
+    kinds.sort();
+    assert_eq!(
+        kinds,
+        [
+            (0, 65_535, 73),
+            (0, 65_535, 73),
+            (1, 12, 9),
+            (3, 11, 7),
+            (4, 128, 64),
+            (5, 11, 7),
+        ]
+    );
+}
+
+/// Each octant names its own grid in PDS octet 7: the catalogue's is the same by
+/// value, and without the GDS the same points are read. It has none of the other four.
+#[test]
+fn the_catalogue_has_the_octants() {
     for (name, message, text) in messages() {
         let h = header(&message, &Lent::default());
+        if h.grid.rows == Rows::Even {
+            assert_eq!(from_catalogue(message[8 + 6]), None, "{name}");
+            continue;
+        }
         assert_eq!(from_catalogue(message[8 + 6]), Some(h.grid), "{name}");
         let mut parts = parts_of(&message, &Lent::default());
         parts.form.grid = None;

@@ -2,7 +2,7 @@
 //! nothing, writing reads back, reading and writing again gives the same octets,
 //! and what the packer writes passes the check.
 
-use second_reading::again::{cleaned, parts_of};
+use second_reading::again::{as_read, cleaned, parts_of};
 use second_reading::cases::*;
 use second_reading::*;
 
@@ -101,7 +101,7 @@ fn writing() {
             }
             assert_eq!(out[length..], case.out[length..]);
             let back = parts_of(&out[..length], &case.parts.lent);
-            assert_eq!(back, case.parts);
+            assert_eq!(back, as_read(&case.parts));
         }
     }
 }
@@ -401,7 +401,7 @@ fn every_section_is_named() {
         let mut named = std::collections::HashMap::new();
         // 22 by a length whose own octets don't fit, in each section
         let mut cut = [0; 5];
-        for seed in 1..=4 {
+        for seed in 1..=6 {
             for k in 0..300 {
                 let read = read_case(seed, k, size);
                 let check = check_case(seed, k, size);
@@ -463,6 +463,54 @@ fn every_year_that_moved_is_met() {
                 times.iter().all(|&times| times >= 8),
                 "{kind}: {YEARS:?} {times:?}"
             );
+        }
+    }
+}
+
+/// What R-4 added is met by every kind of case: each of the four kinds taken, refused by
+/// 9, and where a message is read refused by 8.
+#[test]
+fn every_kind_of_grid_is_met() {
+    for size in [Size::Small, Size::Short, Size::Whole] {
+        let mut met = [[[0; KINDS_MET.len()]; 4]; 4];
+        let mut count = |function: usize, kind: Option<u8>, reply: u32| {
+            if let Some((which, how)) = kind.and_then(|kind| kind_met(kind, reply)) {
+                met[function][which][how] += 1;
+            }
+        };
+        for seed in 1..=8 {
+            for k in 0..1_000 {
+                let case = read_case(seed, k, size);
+                let reply = header(&case.message, &case.lent).reply;
+                count(0, kind_in(&case.message), reply);
+                let case = write_case(seed, k, size);
+                let reply = write(&case.parts, &mut case.out.clone()).0;
+                count(1, case.parts.form.grid.map(|grid| grid.kind), reply);
+                let case = check_case(seed, k, size);
+                let Source { numbers, marks, d } = &case.source;
+                let reply = check(&case.message, &case.lent, numbers, marks, *d).number;
+                count(2, kind_in(&case.message), reply);
+                let mut case = pack_case(seed, k, size);
+                let PackCase {
+                    pds,
+                    form,
+                    lent,
+                    source,
+                    out,
+                } = &mut case;
+                let reply = pack(pds, form, lent, source, out).0;
+                count(3, form.grid.map(|grid| grid.kind), reply);
+            }
+        }
+        for (function, kinds) in ["read", "write", "check", "pack"].iter().zip(met) {
+            for times in kinds {
+                let [taken, by_8, by_9] = times;
+                let reads = ["read", "check"].contains(function);
+                assert!(
+                    taken >= 100 && by_9 >= 5 && (by_8 >= 5) == reads,
+                    "{function}: {KINDS_MET:?} {kinds:?}"
+                );
+            }
         }
     }
 }

@@ -1,7 +1,7 @@
 -- The row's numbers, four of them as signed fields, and its geometry, call by call.
 use mathlib.Core.Path.{_≡_, ap, _∙_}
-use Rattle.rules.specs.declared.{Edges.Edges, Geometry.Geometry}
-use Rattle.rules.specs.Grid.{geometryBy}
+use Rattle.rules.specs.declared.{Edges.Edges}
+use Rattle.rules.specs.Figures.{geometryBy}
 use Rattle.octets.proofs.Signs.{kept}
 use borrow.Author.Needs.{needs}
 use Rattle.catalogue.proofs.entry.Statement.{statement}

@@ -6,7 +6,8 @@ use mathlib.Core.List.{_∷_, map}
 use lib.IntN.{pos}
 use lib.ListN.{drop}
 use Rattle.rules.specs.declared.Entry.{Entry}
-use Rattle.rules.specs.Grid.{geometryBy, rectangles, octants, catalogue}
+use Rattle.rules.specs.Figures.{geometryBy, figuresOf}
+use Rattle.rules.specs.Grid.{rectangles, octants, catalogue}
 use Rattle.catalogue.proofs.Laws.{numbersOf, from}
 use Rattle.catalogue.specs.declared.{Numbers.Numbers}
 use borrow.Author.Needs.{needs}
@@ -26,7 +27,7 @@ unfolding rectangles octants catalogue
 array-copy-out-entry c = let l : c .args .i < 15 = c .pre in search needs
 
 returns : tie.Need-returns
-unfolding rectangles octants catalogue geometryBy none
+unfolding rectangles octants catalogue geometryBy figuresOf none
 returns c =
     from (map numbersOf catalogue) (c .before .before .args .i) none (c .before .before .pre)
     ∙ ap (λ (e : Entry). e ∷ drop (c .before .before .args .i + 1) catalogue) (sym (c .entry .ensures))

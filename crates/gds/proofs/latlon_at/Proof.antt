@@ -7,7 +7,11 @@ use Rattle.gds.proofs.latlon_at.Tie as tie
 
 returns : tie.Need-returns
 unfolding gridOfCells cellsAt
-returns c = rw (c .grid-with .ensures, c .before .edges-at .ensures)
+returns c =
+    rw (
+      c .grid-with .ensures,
+      c .before .edges-at .ensures,
+    )
 
 pub latlon-at-spec : {M : Type 1} → statement M
 latlon-at-spec =

@@ -8,7 +8,7 @@ returns : tie.Need-returns
 returns c = holds-none _ (c .enum-told .given .1)
 
 returns-2 : tie.Need-returns-2
-returns-2 c = holds-given _ _ (c .before .before .grid .given .1) _ (c .signs-taken .ensures)
+returns-2 c = holds-given _ _ (c .before .before .grid .given .1) _ (c .grid-unheld .ensures)
 
 pub found-holds-spec : {M : Type 1} → statement M
 found-holds-spec =

@@ -1,35 +1,18 @@
--- Refusal 9: the list of tests opened, call by call.
+-- The list of tests opened, call by call.
 use Rattle.rules.specs.Table.{anyOf, orAll}
 use Rattle.rules.specs.Columns.{cellsFaults}
-use Rattle.rules.specs.Grid.{cellsBy, scanBad}
+use Rattle.rules.specs.Grid.{cellsBy}
 use borrow.Author.Needs.{needs}
 use Rattle.grid.proofs.latlon_bad.Statement.{statement}
 use Rattle.grid.proofs.latlon_bad.Tie as tie
 
 returns : tie.Need-returns
-unfolding anyOf orAll cellsFaults cellsBy scanBad
-returns c =
-    rw (
-      c .longitude-bad2 .ensures,
-      c .before .latitude-bad2 .ensures,
-      c .before .before .longitude-bad .ensures,
-      c .before .before .before .latitude-bad .ensures,
-      c .before .before .before .before .side-bad2 .ensures,
-      c .before .before .before .before .before .side-bad .ensures,
-      c .before .before .before .before .before .before .scan-bad .ensures,
-      c .before .before .before .before .before .before .before .points-bad .ensures,
-    )
+unfolding anyOf orAll cellsFaults cellsBy
+returns c = rw (c .corners-bad .ensures)
 
 pub latlon-bad-spec : {M : Type 1} → statement M
 latlon-bad-spec =
     tie.close
     (tie.spec
-    (λ c κs. search needs)
-    (λ c κs. search needs)
-    (λ c κs. search needs)
-    (λ c κs. search needs)
-    (λ c κs. search needs)
-    (λ c κs. search needs)
-    (λ c κs. search needs)
     (λ c κs. search needs)
     returns)

@@ -1,4 +1,4 @@
--- Refusal 9: the list of tests opened, call by call.
+-- The list of tests opened, call by call.
 use Rattle.rules.specs.Table.{anyOf, orAll}
 use Rattle.rules.specs.Columns.{cellsFaults}
 use Rattle.rules.specs.Grid.{cellsBy}

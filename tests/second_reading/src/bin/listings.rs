@@ -7,8 +7,10 @@
 //! that the listing is a refusal by N, and any other name that it is none.
 
 use second_reading::cases::Rng;
-use second_reading::grid::from_catalogue;
-use second_reading::{listing, place_of, write, BitmapKind, Form, Grid, Parts, Rows};
+use second_reading::grid::{
+    from_catalogue, own_figures, GAUSSIAN, LAMBERT, LAT_LON, MERCATOR, POLAR,
+};
+use second_reading::{listing, place_of, write, BitmapKind, Form, Grid, Parts};
 use std::process::ExitCode;
 
 /// A PDS of so many octets that keeps the rules, with D.
@@ -46,8 +48,33 @@ fn grid(ni: u16, nj: u16, scan: u8) -> Grid {
         di: 1_000,
         dj: 65_535,
         scan,
-        rows: Rows::Even,
+        ..Grid::default()
     }
+}
+
+/// The four kinds of R-4, and what a case's name calls them.
+const KINDS: [(u8, &str); 4] = [
+    (MERCATOR, "mercator"),
+    (LAMBERT, "lambert"),
+    (GAUSSIAN, "gaussian"),
+    (POLAR, "polar"),
+];
+
+/// A grid of columns and rows of any kind.
+fn grid_of(kind: u8, ni: u16, nj: u16, scan: u8) -> Grid {
+    own_figures(&Grid {
+        kind,
+        dx: 81_271,
+        dy: 16_777_215,
+        lov: -95_000,
+        latin1: 25_000,
+        latin2: -25_000,
+        pole_la: -90_000,
+        pole_lo: 0,
+        centre: 192,
+        circles: 32,
+        ..grid(ni, nj, scan)
+    })
 }
 
 /// What the writer is given: values, some of them absent.
@@ -86,8 +113,8 @@ fn message(parts: &Parts) -> Vec<u8> {
 }
 
 /// The chart of the scanning cases, in message order for each setting of the
-/// flags: 3 columns and 2 rows, the same picture each time.
-fn scanned(scan: u8) -> Vec<u8> {
+/// flags: 3 columns and 2 rows, the same picture each time on each kind of grid.
+fn scanned(kind: u8, scan: u8) -> Vec<u8> {
     const CHART: [[Option<u32>; 3]; 2] = [[Some(1), None, Some(30)], [Some(400), Some(0), None]];
     let (west, north, by_column) = (scan & 128 != 0, scan & 64 != 0, scan & 32 != 0);
     let columns: Vec<usize> = if west { vec![2, 1, 0] } else { vec![0, 1, 2] };
@@ -106,7 +133,14 @@ fn scanned(scan: u8) -> Vec<u8> {
             }
         }
     }
-    message(&parts(1, grid(3, 2, scan), 0, 0x439C_4000, 9, &points))
+    message(&parts(
+        1,
+        grid_of(kind, 3, 2, scan),
+        0,
+        0x439C_4000,
+        9,
+        &points,
+    ))
 }
 
 /// A message of four points that all tests below damage.
@@ -150,6 +184,17 @@ fn dated(mut octets: Vec<u8>, first: usize, century: u8, time: [u8; 5]) -> Vec<u
 fn left_over(mut octets: Vec<u8>, count: usize) -> Vec<u8> {
     let end = octets.len() - 4;
     octets.splice(end..end, vec![0; count]);
+    let total = octets.len() as u32;
+    octets[4..7].copy_from_slice(&total.to_be_bytes()[1..]);
+    octets
+}
+
+/// A message whose GDS, at octet 37, has so many octets more before its end, and says
+/// so.
+fn longer_gds(mut octets: Vec<u8>, count: usize) -> Vec<u8> {
+    let end = 36 + octets[38] as usize;
+    octets.splice(end..end, vec![0; count]);
+    octets[38] += count as u8;
     let total = octets.len() as u32;
     octets[4..7].copy_from_slice(&total.to_be_bytes()[1..]);
     octets
@@ -250,7 +295,10 @@ fn cases() -> Vec<(String, Vec<u8>)> {
     case("refused_12", with(bds + 10, 4));
 
     for scan in 0..8u8 {
-        case(&format!("scan_{:03}", scan * 32), scanned(scan * 32));
+        case(
+            &format!("scan_{:03}", scan * 32),
+            scanned(LAT_LON, scan * 32),
+        );
     }
 
     let one = |d, e, r, bits, value| message(&parts(d, grid(1, 1, 0), e, r, bits, &[Some(value)]));
@@ -349,6 +397,70 @@ fn cases() -> Vec<(String, Vec<u8>)> {
         octets[gds - 1 + 178 + 10] = 12;
         octets
     });
+
+    // the other projections: the same picture under each setting of the flags
+    for (kind, name) in KINDS {
+        for scan in 0..8u8 {
+            let drawn = scanned(kind, scan * 32);
+            case(&format!("{name}_scan_{:03}", scan * 32), drawn);
+        }
+        let points: Vec<Option<u32>> = (0..35).map(|k| (k % 6 != 4).then_some(k * k)).collect();
+        let grid = grid_of(kind, 7, 5, 64);
+        case(name, message(&parts(-1, grid, 3, 0xC110_0000, 11, &points)));
+        // forty points in one row, and in one column
+        for (ni, nj, by) in [(40, 1, "row"), (1, 40, "column")] {
+            let points: Vec<Option<u32>> = (0..40).map(Some).collect();
+            let grid = grid_of(kind, ni, nj, 192);
+            let name = format!("{name}_one_{by}");
+            case(&name, message(&parts(0, grid, 0, 0, 10, &points)));
+        }
+    }
+    let projected = |kind: u8| {
+        let points = [None, Some(7), Some(0), Some(2)];
+        let grid = grid_of(kind, 2, 2, 0);
+        message(&parts(1, grid, 0, 0x439C_4000, 3, &points))
+    };
+    let with = |kind: u8, octet: usize, values: &[u8]| {
+        let mut octets = projected(kind);
+        octets[octet - 1..octet - 1 + values.len()].copy_from_slice(values);
+        octets
+    };
+    // 32 octets where 42 are right and the other way round, and a type that is not taken
+    case("refused_8_polar_42", longer_gds(projected(POLAR), 10));
+    case("refused_8_gaussian_42", longer_gds(projected(GAUSSIAN), 10));
+    case("refused_8_lambert_44", longer_gds(projected(LAMBERT), 2));
+    case("refused_8_mercator_32", with(GAUSSIAN, gds + 5, &[1]));
+    case("refused_8_lambert_32", with(POLAR, gds + 5, &[3]));
+    case("refused_8_latlon_42", with(MERCATOR, gds + 5, &[0]));
+    case("refused_8_gnomonic", with(POLAR, gds + 5, &[2]));
+    case("refused_8_space_view", with(LAMBERT, gds + 5, &[90]));
+    case("refused_8_polar_octet_5", with(POLAR, gds + 4, &[33]));
+    // rows that run the other way than the latitudes; no test on the other two
+    case("refused_9_mercator_scan", with(MERCATOR, gds + 27, &[64]));
+    case("refused_9_gaussian_scan", with(GAUSSIAN, gds + 27, &[64]));
+    case(
+        "refused_9_gaussian_no_n",
+        with(GAUSSIAN, gds + 25, &[255, 255]),
+    );
+    case(
+        "refused_9_mercator_latin",
+        with(MERCATOR, gds + 23, &[1, 95, 145]),
+    );
+    case(
+        "refused_9_lambert_latin",
+        with(LAMBERT, gds + 31, &[129, 95, 145]),
+    );
+    case(
+        "refused_9_lambert_pole",
+        with(LAMBERT, gds + 37, &[5, 126, 65]),
+    );
+    case(
+        "refused_9_polar_lov",
+        with(POLAR, gds + 17, &[133, 126, 65]),
+    );
+    case("refused_9_polar_nx", with(POLAR, gds + 6, &[255, 255]));
+    case("refused_20_lambert", with(LAMBERT, gds + 2, &[41]));
+    case("refused_21_mercator", with(MERCATOR, gds + 2, &[30]));
 
     // 32,685 and 32,687 values of one octet; then an octet after a message
     case("refused_14_octets_32768", long(32_768, 15, 2_179));

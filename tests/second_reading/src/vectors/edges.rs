@@ -283,5 +283,65 @@ pub const COUNTS: [(u32, u16, u16); 26] = [
     (9, 65_535, 65_535),
 ];
 
+/// 9: "Latitude magnitude is at most 90,000": the reply, the number as it is given.
+pub const LATITUDES: [(u32, i32); 18] = [
+    (0, 0),
+    (0, 1),
+    (0, -1),
+    (0, 89_999),
+    (0, 90_000),
+    (9, 90_001),
+    (0, -89_999),
+    (0, -90_000),
+    (9, -90_001),
+    (9, 360_000),
+    (9, 8_388_607),
+    (9, -8_388_607),
+    (9, 8_388_608),
+    (9, -8_388_608),
+    (9, 16_777_216),
+    (9, -16_777_216),
+    (9, i32::MAX),
+    (9, i32::MIN),
+];
+
+/// 9: "longitude at most 360,000".
+pub const LONGITUDES: [(u32, i32); 17] = [
+    (0, 0),
+    (0, 1),
+    (0, -1),
+    (0, 359_999),
+    (0, 360_000),
+    (9, 360_001),
+    (0, -359_999),
+    (0, -360_000),
+    (9, -360_001),
+    (9, 8_388_607),
+    (9, -8_388_607),
+    (9, 8_388_608),
+    (9, -8_388_608),
+    (9, 16_777_216),
+    (9, -16_777_216),
+    (9, i32::MAX),
+    (9, i32::MIN),
+];
+
+/// The scan test compares values: the reply, a name, La1 and La2 in octets, scanning
+/// flags.
+pub const SIGNS: [(u32, &str, &str, &str, u8); 12] = [
+    (9, "minus-zero-north", "800000", "000000", 64),
+    (9, "minus-zero-south", "000000", "800000", 0),
+    (9, "minus-zero-first-south", "800000", "000000", 0),
+    (9, "minus-zero-last-north", "000000", "800000", 64),
+    (0, "minus-2-to-minus-1-north", "800002", "800001", 64),
+    (9, "minus-1-to-minus-2-north", "800001", "800002", 64),
+    (0, "minus-1-to-minus-2-south", "800001", "800002", 0),
+    (9, "minus-2-to-minus-1-south", "800002", "800001", 0),
+    (0, "minus-1-to-zero-north", "800001", "000000", 64),
+    (0, "minus-1-to-1-north", "800001", "000001", 64),
+    (9, "1-to-minus-1-north", "000001", "800001", 64),
+    (0, "1-to-minus-zero-south", "000001", "800000", 0),
+];
+
 /// 7: numbers that the catalogue does not have.
 pub const NOT_LISTED: [u8; 15] = [0, 1, 4, 5, 21, 28, 31, 32, 35, 36, 46, 47, 130, 254, 255];

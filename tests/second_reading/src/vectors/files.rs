@@ -71,7 +71,7 @@ pub struct Record<'a> {
 }
 
 impl Record<'_> {
-    /// The name's length and the name; 51 octets of fields; the lists.
+    /// The name's length and the name; 83 octets of fields; the lists.
     pub fn file(&self) -> Vec<u8> {
         let grid = self.form.grid.unwrap_or_default();
         let (kind, number) = match self.form.bitmap {
@@ -98,10 +98,19 @@ impl Record<'_> {
             &signed(self.d),
             &self.lent.number.to_be_bytes(),
             &three(self.room),
-            &[grid.rows.number()],
+            &[grid.rows.number(), grid.kind],
+            &grid.dx.to_be_bytes(),
+            &grid.dy.to_be_bytes(),
+            &signed(grid.lov),
+            &signed(grid.latin1),
+            &signed(grid.latin2),
+            &signed(grid.pole_la),
+            &signed(grid.pole_lo),
+            &[grid.centre],
+            &grid.circles.to_be_bytes(),
         ]
         .concat();
-        assert_eq!(fields.len(), 51);
+        assert_eq!(fields.len(), 83);
         assert!(self.room <= 262_145 && self.octets.len() <= 262_145);
         assert!(self.lent.octets.len() <= 8_193 && self.marks.len() <= 65_537);
         let numbers = match self.numbers {

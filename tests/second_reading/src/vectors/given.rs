@@ -2,7 +2,7 @@
 //! octets, a grid in numbers, lists.
 
 use super::messages::{bits, hex, octets, set, set_length, specimen as specimen_octets};
-use crate::{BitmapKind, Form, Grid, Lent, Parts, Rows};
+use crate::{BitmapKind, Form, Grid, Lent, Parts};
 
 /// The specimen's PDS; octet 8 says which sections there are.
 pub fn pds(octet_8: u8) -> Vec<u8> {
@@ -33,7 +33,7 @@ pub fn grid(ni: u16, nj: u16) -> Grid {
         di: 1_000,
         dj: 1_000,
         scan: 64,
-        rows: Rows::Even,
+        ..Grid::default()
     }
 }
 

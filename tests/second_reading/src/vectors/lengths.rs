@@ -2,6 +2,7 @@
 //! each of their sections starts, and the ways to damage their lengths.
 
 use super::check::{field, specimen_field};
+use super::kinds::LAMBERT;
 use super::messages::{plain, set_length, specimen, Sections};
 use super::octants::{Present, NORTH, SOUTH};
 use crate::{Lent, Source};
@@ -171,8 +172,19 @@ pub fn octant_stored() -> Home {
     }
 }
 
+/// The specimen on a Lambert grid: sections of 28, 42, 8 and 14 octets.
+pub fn lambert() -> Home {
+    Home {
+        name: "lambert",
+        sections: LAMBERT.sections(),
+        starts: [Some(9), Some(37), Some(79), Some(87)],
+        end: 101,
+        ..whole()
+    }
+}
+
 /// All of them.
-pub fn homes() -> [Home; 8] {
+pub fn homes() -> [Home; 9] {
     [
         whole(),
         no_bms(),
@@ -182,6 +194,7 @@ pub fn homes() -> [Home; 8] {
         octant(),
         octant_carried(),
         octant_stored(),
+        lambert(),
     ]
 }
 

@@ -11,6 +11,7 @@
 //! * `messages`  messages, octet by octet;
 //! * `edges`     edges that more than one table has;
 //! * `octants`   the thinned octants, grids 37 to 44;
+//! * `kinds`     Mercator, Lambert, Gaussian and polar stereographic grids;
 //! * `lengths`   messages whose section lengths can be damaged one by one;
 //! * `given`     what the writer and the packer are given;
 //! * `files`     the files that the programs are run on.
@@ -19,6 +20,7 @@ pub mod check;
 mod edges;
 mod files;
 mod given;
+mod kinds;
 mod lengths;
 mod messages;
 mod octants;

@@ -153,6 +153,7 @@ impl Octant {
             } else {
                 Rows::FromPole
             },
+            ..Grid::default()
         }
     }
 

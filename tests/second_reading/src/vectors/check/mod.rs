@@ -6,8 +6,10 @@
 //! * `steps`   rules 16 and 17: R and E, half a step;
 //! * `pairs`   two faults and more at once;
 //! * `octants` thinned octants;
-//! * `lengths` R-2: where the lengths went wrong.
+//! * `lengths` R-2: where the lengths went wrong;
+//! * `kinds`   R-4: Mercator, Lambert, Gaussian and polar stereographic grids.
 
+mod kinds;
 mod lengths;
 mod octants;
 mod pairs;
@@ -101,6 +103,7 @@ pub fn table() -> Table {
     pairs::add(&mut table);
     octants::add(&mut table);
     lengths::add(&mut table);
+    kinds::add(&mut table);
     table
 }
 

@@ -4,8 +4,10 @@
 //! * `refused`  5, 18, 15, 11, 19, then the writer's 6, 7, 9, 10, 13 and 14;
 //! * `pairs`    two faults and more at once, in that order;
 //! * `taken`    fields that must be packed: R, E and X by hand;
-//! * `octants`  thinned octants, given and from the catalogue.
+//! * `octants`  thinned octants, given and from the catalogue;
+//! * `kinds`    R-4: Mercator, Lambert, Gaussian and polar stereographic grids.
 
+mod kinds;
 mod octants;
 mod pairs;
 mod refused;
@@ -151,6 +153,7 @@ pub fn table() -> Table {
     pairs::add(&mut table);
     taken::add(&mut table);
     octants::add(&mut table);
+    kinds::add(&mut table);
     table
 }
 

@@ -181,7 +181,11 @@ fn lengths(table: &mut Table) {
     }
     for (reply, length, rule) in [
         (0, 32, "the GDS length"),
-        (8, 34, "8: GDS length is not 32, and the walk lands"),
+        (
+            8,
+            34,
+            "8: no kind has a GDS of 34 octets, and the walk lands",
+        ),
     ] {
         let mut sections = plain();
         sections.gds = resized(&sections.gds, length);

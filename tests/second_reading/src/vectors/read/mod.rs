@@ -17,15 +17,19 @@
 //! * `octants`  thinned octants, with and without their GDS;
 //! * `lengths`  R-2: where the lengths went wrong, in each section and each way;
 //! * `order`    R-2: two lengths that went wrong, and 20 to 23 beside other faults;
-//! * `years`    R-3: 100 and 0 on an octant and elsewhere, and 0 beside other faults.
+//! * `years`    R-3: 100 and 0 on an octant and elsewhere, and 0 beside other faults;
+//! * `kinds`    R-4: Mercator, Lambert, Gaussian and polar stereographic grids;
+//! * `outside`  messages that other programs wrote.
 
 mod data;
 mod fields;
+mod kinds;
 mod layout;
 mod lengths;
 mod misread;
 mod octants;
 mod order;
+mod outside;
 mod pairs;
 mod taken;
 mod years;
@@ -34,9 +38,9 @@ pub(super) use pairs::{with, with_e, with_lengths};
 
 use super::files::three;
 use crate::again::first_changed;
-use crate::grid::place_of;
+use crate::grid::{place_of, GAUSSIAN, LAMBERT, MERCATOR, POLAR};
 use crate::read::read;
-use crate::{BitmapKind, Header, Lent, Rows};
+use crate::{BitmapKind, Grid, Header, Lent, Rows};
 
 /// One message with what is lent, and what must come of it.
 pub struct Vector {
@@ -56,6 +60,10 @@ pub struct Vector {
     pub says: Vec<(&'static str, i64)>,
     /// By hand: each point's value, nothing where it is absent.
     pub points: Option<Vec<Option<u32>>>,
+    /// By hand: the grid in all its numbers.
+    pub grid: Option<Grid>,
+    /// By hand: the first octet, counted from 1, that writing what was read changes.
+    pub changes: Option<usize>,
 }
 
 impl Vector {
@@ -82,6 +90,16 @@ impl Vector {
         self.points = Some(points.to_vec());
         self
     }
+
+    fn grid(&mut self, grid: Grid) -> &mut Vector {
+        self.grid = Some(grid);
+        self
+    }
+
+    fn changes(&mut self, octet: usize) -> &mut Vector {
+        self.changes = Some(octet);
+        self
+    }
 }
 
 /// The table, in the order of the rules.
@@ -105,6 +123,8 @@ impl Table {
             stop: None,
             says: Vec::new(),
             points: None,
+            grid: None,
+            changes: None,
         });
         self.vectors.last_mut().expect("just added")
     }
@@ -135,6 +155,8 @@ pub fn table() -> Table {
     lengths::add(&mut table);
     order::add(&mut table);
     years::add(&mut table);
+    kinds::add(&mut table);
+    outside::add(&mut table);
     table
 }
 
@@ -203,6 +225,9 @@ impl Vector {
             if found != *value {
                 return Some(format!("{name} is {found}, not {value}"));
             }
+        }
+        if let Some(grid) = self.grid.filter(|grid| *grid != answer.header.grid) {
+            return Some(format!("{:?}, not {grid:?}", answer.header.grid));
         }
         let points = self.points.as_ref()?;
         if answer.header.points as usize != points.len() {
@@ -277,8 +302,24 @@ impl Vector {
             Rows::FromPole => " pole",
             Rows::Neither => panic!("9 refuses it"),
         };
+        let more = match kind_name(grid.kind) {
+            None => String::new(),
+            Some(name) => format!(
+                " {name} {} {} {} {} {} {} {} {} {}",
+                grid.dx,
+                grid.dy,
+                grid.lov,
+                grid.latin1,
+                grid.latin2,
+                grid.pole_la,
+                grid.pole_lo,
+                grid.centre,
+                grid.circles
+            ),
+        };
         format!(
-            "{} 0 {} {} {} {} {} {} {:08x} {} {} {kind} {} {} {} {} {} {} {} {} {} {} {} {} {}{rows} {} {} {:08x} {kept} {again}\n",
+            "{} 0 {} {} {} {} {} {} {:08x} {} {} {kind} {} {} {} {} {} {} {} {} {} {} {} {} {}\
+             {rows}{more} {} {} {:08x} {kept} {again}\n",
             self.name,
             header.points,
             header.present,
@@ -307,6 +348,13 @@ impl Vector {
             summed(&answer),
         )
     }
+}
+
+/// What a line calls a grid's kind; nothing of a latitude/longitude grid.
+fn kind_name(kind: u8) -> Option<&'static str> {
+    let kinds = [MERCATOR, LAMBERT, GAUSSIAN, POLAR];
+    let which = kinds.iter().position(|&own| own == kind)?;
+    Some(["mercator", "lambert", "gaussian", "polar"][which])
 }
 
 /// Where the longest run of zero octets starts and ends; at the message's end
@@ -339,7 +387,7 @@ fn summed(answer: &Answer) -> u64 {
 
 /// A field of the answer, as the table names it.
 fn field(header: &Header, name: &str) -> i64 {
-    let spot = place_of(&header.grid, 0);
+    let (first, second) = (place_of(&header.grid, 0), place_of(&header.grid, 1));
     match name {
         "points" => header.points as i64,
         "present" => header.present as i64,
@@ -364,8 +412,11 @@ fn field(header: &Header, name: &str) -> i64 {
         "day" => header.time.day as i64,
         "hour" => header.time.hour as i64,
         "minute" => header.time.minute as i64,
-        "row of point 0" => spot.map_or(-1, |at| at.0 as i64),
-        "column of point 0" => spot.map_or(-1, |at| at.1 as i64),
+        "kind" => header.grid.kind as i64,
+        "row of point 0" => first.map_or(-1, |at| at.0 as i64),
+        "column of point 0" => first.map_or(-1, |at| at.1 as i64),
+        "row of point 1" => second.map_or(-1, |at| at.0 as i64),
+        "column of point 1" => second.map_or(-1, |at| at.1 as i64),
         _ => panic!("no field {name}"),
     }
 }
@@ -457,9 +508,9 @@ mod tests {
             let answer = write(&parts_of(message, lent), &mut again);
             assert_eq!(answer, (0, message.len() as u32), "{}", vector.name);
             assert_eq!(again, cleaned(message, lent), "{}", vector.name);
-            let by_hand = CHANGED.iter().find(|line| line.0 == vector.name);
-            let changed = first_changed(message, lent);
-            assert_eq!(changed, by_hand.map(|line| line.1), "{}", vector.name);
+            let listed = CHANGED.iter().find(|line| line.0 == vector.name);
+            let by_hand = vector.changes.or(listed.map(|line| line.1));
+            assert_eq!(first_changed(message, lent), by_hand, "{}", vector.name);
         }
     }
 

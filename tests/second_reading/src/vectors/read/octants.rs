@@ -5,7 +5,6 @@ use crate::vectors::messages::{hex, listed, plain, set, set_length, Sections};
 use crate::vectors::octants::{Octant, Present, NORTH, OCTANTS, POINTS, PRESENT, SOUTH};
 
 pub fn add(table: &mut Table) {
-    outside(table);
     taken(table);
     octet_7(table);
     ignored(table);
@@ -19,35 +18,6 @@ pub fn add(table: &mut Table) {
 
 /// Room for every point.
 const ROOM: usize = POINTS;
-
-/// Messages that other programs wrote, and what they say is in them.
-fn outside(table: &mut Table) {
-    for (name, message, said) in [
-        (
-            "outside-octant37",
-            &include_bytes!("../../../tests/outside/octant37.grb")[..],
-            include_str!("../../../tests/outside/octant37.txt"),
-        ),
-        (
-            "outside-octant42",
-            include_bytes!("../../../tests/outside/octant42.grb"),
-            include_str!("../../../tests/outside/octant42.txt"),
-        ),
-    ] {
-        let values = said.split_once("X ").expect("values").1;
-        let points: Vec<Option<u32>> = values
-            .split_whitespace()
-            .map(|word| word.parse().ok())
-            .collect();
-        table
-            .add(0, name, "written by another program", message.to_vec())
-            .room(ROOM, ROOM)
-            .says("N", 10)
-            .says("R", 0)
-            .says("rows", if name.ends_with("37") { 1 } else { 2 })
-            .points(&points);
-    }
-}
 
 fn taken(table: &mut Table) {
     for octant in OCTANTS {
@@ -206,7 +176,7 @@ fn grid_section(table: &mut Table) {
                 .add(reply, &name, rule, sections.message())
                 .room(ROOM, ROOM);
         };
-        let pair = "8: length 178 goes with octet 5 = 33, and 32 with 255";
+        let pair = "8: length 178 goes with octet 5 = 33, and the others with 255";
         for value in [0, 32, 34, 254, 255] {
             let name = format!("octet-5-{value}");
             add(8, &name, pair, octant.flat().gds(5, &[value]));
@@ -217,14 +187,15 @@ fn grid_section(table: &mut Table) {
             let name = format!("octet-4-{value}");
             add(8, &name, rule, octant.flat().gds(4, &[value]));
         }
-        let rule = "8: octet 6 is 0";
-        for value in [1, 4, 10, 255] {
+        let rule = "8: length 178 goes with octet 6 = 0";
+        for value in [1, 3, 4, 5, 10, 255] {
             let name = format!("octet-6-{value}");
             add(8, &name, rule, octant.flat().gds(6, &[value]));
         }
         for length in [34, 174, 176, 180, 256, 434] {
             let name = format!("length-{length}");
-            let rule = "8: a GDS length that is neither 32 nor 178, and the walk lands";
+            let rule =
+                "8: a length of no latitude/longitude grid, neither 32 nor 178, and the walk lands";
             add(8, &name, rule, octant.long(length));
             let name = format!("length-{length}-255");
             add(8, &name, rule, octant.long(length).gds(5, &[255]));
@@ -268,7 +239,7 @@ fn grid_section(table: &mut Table) {
         set_length(&mut sections.gds, 178);
         sections
     };
-    let pair = "8: length 178 goes with octet 5 = 33, and 32 with 255";
+    let pair = "8: length 178 goes with octet 5 = 33, and the others with 255";
     table.add(8, "8-length-178", pair, long(255).message());
     table.add(
         9,

@@ -1,7 +1,9 @@
 //! Rules 5, 6, 7 and 9: PDS, time, catalogue, grid.
 
 use super::Table;
-use crate::vectors::edges::{times, COUNTS, NOT_LISTED, SPECIMEN_OF_2000, YEAR_100};
+use crate::vectors::edges::{
+    times, COUNTS, LATITUDES, LONGITUDES, NOT_LISTED, SPECIMEN_OF_2000, YEAR_100,
+};
 use crate::vectors::given::{flat, given, grid, listed, pds_of, plain, with_pds, LISTED};
 use crate::vectors::messages::{hex, set};
 use crate::{Grid, Parts};
@@ -143,54 +145,15 @@ fn two(change: impl Fn(&mut Grid)) -> Parts {
 }
 
 fn corners(table: &mut Table) {
-    let least = i32::MIN;
-    let most = i32::MAX;
     let rule = "9: latitude magnitude is at most 90,000";
-    for (reply, value) in [
-        (0, 0),
-        (0, 1),
-        (0, -1),
-        (0, 89_999),
-        (0, 90_000),
-        (9, 90_001),
-        (0, -89_999),
-        (0, -90_000),
-        (9, -90_001),
-        (9, 360_000),
-        (9, 8_388_607),
-        (9, -8_388_607),
-        (9, 8_388_608),
-        (9, -8_388_608),
-        (9, 16_777_216),
-        (9, -16_777_216),
-        (9, most),
-        (9, least),
-    ] {
+    for (reply, value) in LATITUDES {
         let first = two(|grid| grid.la1 = value);
         table.add(reply, &format!("9-la1-{value}"), rule, first);
         let last = two(|grid| grid.la2 = value);
         table.add(reply, &format!("9-la2-{value}"), rule, last);
     }
     let rule = "9: longitude magnitude is at most 360,000";
-    for (reply, value) in [
-        (0, 0),
-        (0, 1),
-        (0, -1),
-        (0, 359_999),
-        (0, 360_000),
-        (9, 360_001),
-        (0, -359_999),
-        (0, -360_000),
-        (9, -360_001),
-        (9, 8_388_607),
-        (9, -8_388_607),
-        (9, 8_388_608),
-        (9, -8_388_608),
-        (9, 16_777_216),
-        (9, -16_777_216),
-        (9, most),
-        (9, least),
-    ] {
+    for (reply, value) in LONGITUDES {
         let first = two(|grid| grid.lo1 = value);
         table.add(reply, &format!("9-lo1-{value}"), rule, first);
         let last = two(|grid| grid.lo2 = value);

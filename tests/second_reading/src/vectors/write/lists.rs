@@ -4,6 +4,7 @@ use super::Table;
 use crate::vectors::given::{
     flat, given, grid, lend, listed, marks, pds, pds_of, plain, row, specimen, stored,
 };
+use crate::vectors::kinds::{Kind, LAMBERT, MERCATOR};
 use crate::{BitmapKind, Lent, Parts};
 
 pub fn add(table: &mut Table) {
@@ -445,6 +446,11 @@ fn room(table: &mut Table) {
         parts.values = vec![0xFF_FFFF; 65_536];
         parts
     };
+    let longest_of = |kind: Kind| {
+        let mut parts = longest();
+        parts.form.grid = Some(kind.sized(256, 256));
+        parts
+    };
     let long_pds = || given(|parts| parts.pds = pds_of(1_024));
     let no_points = || row(BitmapKind::Carried, 3, &[None; 4]);
     for (name, parts, length) in [
@@ -464,6 +470,9 @@ fn room(table: &mut Table) {
         ("long-pds", long_pds(), 1_090),
         // 8, 1,024, 32, 6 + 8,192, 11 + 196,608 + 1 and 4
         ("longest", longest(), 205_886),
+        // 8, 1,024, 42, 6 + 8,192, 11 + 196,608 + 1 and 4
+        ("longest-lambert", longest_of(LAMBERT), 205_896),
+        ("longest-mercator", longest_of(MERCATOR), 205_896),
     ] {
         for (reply, room) in [
             (14, 0),

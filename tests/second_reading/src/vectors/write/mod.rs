@@ -4,9 +4,11 @@
 //! * `lists`   rules 10, 11, 13 and 14: stored bitmap, packing, lists, room;
 //! * `pairs`   two faults and more at once;
 //! * `taken`   parts that must be written;
-//! * `octants` thinned octants, given and from the catalogue.
+//! * `octants` thinned octants, given and from the catalogue;
+//! * `kinds`   R-4: Mercator, Lambert, Gaussian and polar stereographic grids.
 
 mod fields;
+mod kinds;
 mod lists;
 mod octants;
 mod pairs;
@@ -14,7 +16,7 @@ mod taken;
 
 use super::files::{octet_before, summed, Call, Numbers, Record};
 use super::messages::hex;
-use crate::again::parts_of;
+use crate::again::{as_read, parts_of};
 use crate::write::write;
 use crate::Parts;
 
@@ -87,6 +89,7 @@ pub fn table() -> Table {
     pairs::add(&mut table);
     taken::add(&mut table);
     octants::add(&mut table);
+    kinds::add(&mut table);
     table
 }
 
@@ -111,7 +114,7 @@ impl Vector {
             reply,
             message: message.to_vec(),
             kept: after == &before[length as usize..],
-            back: reply == 0 && parts_of(message, &self.parts.lent) == self.parts,
+            back: reply == 0 && parts_of(message, &self.parts.lent) == as_read(&self.parts),
         }
     }
 

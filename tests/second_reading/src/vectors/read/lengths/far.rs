@@ -33,7 +33,7 @@ pub fn add(table: &mut Table) {
         let name = format!("23-far-{}", place + 14);
         table.stop((23, 5, place + 14), &name, LEFT_OVER, sections.message());
         let name = format!("20-to-23-far-{place}");
-        let rule = "8: neither 32 nor 178, and the walk lands";
+        let rule = "8: no kind has this length, and the walk lands";
         table.add(8, &name, rule, long(gds).message());
     }
     // a bitmap section of so many octets, and a data section behind it

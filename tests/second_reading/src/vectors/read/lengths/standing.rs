@@ -25,6 +25,8 @@ pub fn add(table: &mut Table) {
                     (30, UNDER),
                     (31, ODD_UNDER),
                     (33, ODD),
+                    (41, ODD),
+                    (43, ODD),
                     (177, ODD),
                     (179, ODD),
                 ],
@@ -59,13 +61,13 @@ pub fn add(table: &mut Table) {
         (
             8,
             "21-gds-34",
-            "8: neither 32 nor 178",
+            "8: no kind has this length",
             whole().stands(2, 34),
         ),
         (
             8,
             "21-gds-176",
-            "8: neither 32 nor 178",
+            "8: no kind has this length",
             octant().stands(2, 176),
         ),
         (
@@ -77,7 +79,7 @@ pub fn add(table: &mut Table) {
         (
             8,
             "21-gds-180",
-            "8: neither 32 nor 178",
+            "8: no kind has this length",
             octant().stands(2, 180),
         ),
         (
