@@ -1,12 +1,13 @@
-/* One call of the codec, of plain C or of a bare loop on 4,096 points, chosen by its number: count N WHAT. What was needed for it is done whatever WHAT is,
- * so that the instructions of WHAT are those of this program less those of WHAT 0. */
-#include "grib1.h"
+/* One call of the codec, of plain C or of a bare loop on 4,096 points, chosen by its number: count N WHAT, and 100 more where another tree's is meant (BESIDE).
+ * What was needed for it is done whatever WHAT is, so that the instructions of WHAT are those of this program less those of WHAT 0. WHAT 16 makes every call and
+ * compares every answer. */
+#include <stdio.h>
+#include <string.h>
+
 #include "plain.h"
+#include "sides.h"
 
-_Bool bare_unpack(const uint8_t *data, size_t data_len, uint32_t at, uint8_t n, uint32_t *values, size_t values_len, uint32_t m);
-_Bool bare_pack(const uint32_t *values, size_t values_len, uint8_t n, uint8_t *data, size_t data_len);
-
-enum { SIDE = 64, POINTS = SIDE * SIDE, MESSAGE = 65536 };
+enum { SQUARE = 64, POINTS = SQUARE * SQUARE, MESSAGE = 65536, START = 8 + 28 + 32 + 11 };
 
 static uint32_t values[POINTS], gaps[POINTS], back[POINTS], held[POINTS];
 static uint8_t marks[POINTS], half[POINTS], marks_back[POINTS];
@@ -30,11 +31,31 @@ static unsigned decimal(const char *s)
     return n;
 }
 
+static int wrong;
+static void must(int good, const char *what)
+{
+    if (!good) {
+        printf("count: %s is not as it must be\n", what);
+        wrong = 1;
+    }
+    memset(back, 1, sizeof back);
+    memset(marks_back, 2, sizeof marks_back);
+    memset(data, 1, sizeof data);
+}
+
+static int same(const uint8_t *out, const uint8_t *those, size_t bits)
+{
+    return memcmp(out, those, (bits + 7) / 8) == 0;
+}
+
 int main(int argc, char **argv)
 {
     if (argc != 3)
         return 2;
-    unsigned n = decimal(argv[1]), what = decimal(argv[2]);
+    unsigned n = decimal(argv[1]), what = decimal(argv[2]) % 100, which = decimal(argv[2]) / 100;
+    if (n < 1 || n > 24 || which >= SIDES)
+        return 2;
+    const Side *side = &sides[which];
     uint8_t bits = (uint8_t)n;
     uint32_t mask = (1u << n) - 1, most = mask < 16777214 ? mask : 16777214;
     int32_t least = n == 24 ? -8388607 : -1000;
@@ -42,9 +63,10 @@ int main(int argc, char **argv)
     form.grid.la1 = 60000;
     form.grid.la2 = -60000;
     form.grid.lo2 = 90000;
-    form.grid.ni = SIDE;
-    form.grid.nj = SIDE;
+    form.grid.ni = SQUARE;
+    form.grid.nj = SQUARE;
     pds[2] = 28;
+    pds[12] = 1;
     pds[13] = 1;
     pds[14] = 1;
     pds[24] = 21;
@@ -66,23 +88,57 @@ int main(int argc, char **argv)
     if (whole.reply || packed.reply || parted.reply)
         return 3;
     Grib1Header h = grib1_header(sparse, parted.len, 0, pds, 0);
-    size_t at = 8 + 28 + 32 + 11;
+    const uint8_t *gathered = sparse + h.bds.start + 11;
+    if (what == 16) {
+        plain_fetch(message + START, n, back, POINTS);
+        must(memcmp(back, values, sizeof values) == 0, "plain C's reading");
+        plain_accumulate(values, n, data, POINTS);
+        must(same(data, message + START, POINTS * n), "plain C's writing");
+        must(plain_check(other + START, n, numbers, POINTS, least, 0), "plain C's check");
+        plain_pack(numbers, n, data, POINTS);
+        must(same(data, other + START, POINTS * n), "plain C's packing");
+        plain_two_stage(gathered, n, sparse + h.bms.start + 6, held, back, marks_back, POINTS);
+        must(memcmp(back, gaps, sizeof gaps) == 0 && memcmp(marks_back, half, sizeof half) == 0, "plain C's reading in two stages");
+        plain_gather(gaps, half, n, data, POINTS);
+        must(same(data, gathered, h.present * n), "plain C's writing of what is present");
+        for (side = sides; side < sides + SIDES; side++) {
+            Grib1Header r = side->header(message, whole.len, 0, pds, 0);
+            must(r.reply == 0 && r.points == POINTS && r.present == POINTS && r.bds.start + 11 == START && r.bits == n, "a header");
+            r = side->read(message, whole.len, 0, pds, 0, back, POINTS, marks_back, POINTS);
+            must(r.reply == 0 && memcmp(back, values, sizeof values) == 0 && memcmp(marks_back, marks, sizeof marks) == 0, "a message read");
+            r = side->read(sparse, parted.len, 0, pds, 0, back, POINTS, marks_back, POINTS);
+            must(r.reply == 0 && memcmp(back, gaps, sizeof gaps) == 0 && memcmp(marks_back, half, sizeof half) == 0, "a message with a bitmap read");
+            must(side->bare_unpack(message, whole.len, START * 8, bits, back, POINTS, POINTS) && memcmp(back, values, sizeof values) == 0, "a bare loop's reading");
+            must(side->bare_pack(values, POINTS, bits, data, MESSAGE) && same(data, message + START, POINTS * n), "a bare loop's writing");
+            must(side->check(other, packed.len, 0, pds, 0, numbers, POINTS, marks, POINTS, 0).reply == 0, "a check");
+            Grib1Written w = side->write(pds, sizeof pds, carried, 0, 0, 0, pds, 0, gaps, POINTS, half, POINTS, data, MESSAGE);
+            must(w.reply == 0 && w.len == parted.len && same(data, sparse, w.len * 8), "a message with a bitmap written");
+            pds[7] = 128;
+            w = side->write(pds, sizeof pds, form, 0, 0, 0, pds, 0, values, POINTS, marks, POINTS, data, MESSAGE);
+            must(w.reply == 0 && w.len == whole.len && same(data, message, w.len * 8), "a message written");
+            w = side->pack(pds, sizeof pds, form, 0, pds, 0, numbers, POINTS, marks, POINTS, 0, data, MESSAGE);
+            must(w.reply == 0 && w.len == packed.len && same(data, other, w.len * 8), "a message packed");
+            pds[7] = 192;
+        }
+        return wrong;
+    }
     switch (what) {
     case 0: return 0;
-    case 1: return grib1_read(message, whole.len, 0, pds, 0, back, POINTS, marks_back, POINTS).reply != 0;
-    case 2: plain_fetch(message + at, n, back, POINTS); return 0;
-    case 3: return !bare_unpack(message, whole.len, (uint32_t)at * 8, bits, back, POINTS, POINTS);
-    case 4: pds[7] = 128; return grib1_write(pds, sizeof pds, form, 0, 0, 0, pds, 0, values, POINTS, marks, POINTS, data, MESSAGE).reply != 0;
+    case 1: return side->read(message, whole.len, 0, pds, 0, back, POINTS, marks_back, POINTS).reply != 0;
+    case 2: plain_fetch(message + START, n, back, POINTS); return 0;
+    case 3: return !side->bare_unpack(message, whole.len, START * 8, bits, back, POINTS, POINTS);
+    case 4: pds[7] = 128; return side->write(pds, sizeof pds, form, 0, 0, 0, pds, 0, values, POINTS, marks, POINTS, data, MESSAGE).reply != 0;
     case 5: plain_accumulate(values, n, data, POINTS); return 0;
-    case 6: return !bare_pack(values, POINTS, bits, data, MESSAGE);
-    case 7: return grib1_check(other, packed.len, 0, pds, 0, numbers, POINTS, marks, POINTS, 0).reply != 0;
-    case 8: return !plain_check(other + at, n, numbers, POINTS, least, 0);
-    case 9: pds[7] = 128; return grib1_pack(pds, sizeof pds, form, 0, pds, 0, numbers, POINTS, marks, POINTS, 0, data, MESSAGE).reply != 0;
+    case 6: return !side->bare_pack(values, POINTS, bits, data, MESSAGE);
+    case 7: return side->check(other, packed.len, 0, pds, 0, numbers, POINTS, marks, POINTS, 0).reply != 0;
+    case 8: return !plain_check(other + START, n, numbers, POINTS, least, 0);
+    case 9: pds[7] = 128; return side->pack(pds, sizeof pds, form, 0, pds, 0, numbers, POINTS, marks, POINTS, 0, data, MESSAGE).reply != 0;
     case 10: plain_pack(numbers, n, data, POINTS); return 0;
-    case 11: return grib1_read(sparse, parted.len, 0, pds, 0, back, POINTS, marks_back, POINTS).reply != 0;
-    case 12: plain_two_stage(sparse + h.bds.start + 11, n, sparse + h.bms.start + 6, held, back, marks_back, POINTS); return 0;
-    case 13: return grib1_write(pds, sizeof pds, carried, 0, 0, 0, pds, 0, gaps, POINTS, half, POINTS, data, MESSAGE).reply != 0;
+    case 11: return side->read(sparse, parted.len, 0, pds, 0, back, POINTS, marks_back, POINTS).reply != 0;
+    case 12: plain_two_stage(gathered, n, sparse + h.bms.start + 6, held, back, marks_back, POINTS); return 0;
+    case 13: return side->write(pds, sizeof pds, carried, 0, 0, 0, pds, 0, gaps, POINTS, half, POINTS, data, MESSAGE).reply != 0;
     case 14: plain_gather(gaps, half, n, data, POINTS); return 0;
+    case 15: return side->header(message, whole.len, 0, pds, 0).reply != 0;
     default: return 2;
     }
 }

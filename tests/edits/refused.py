@@ -4,7 +4,8 @@ An edit file holds one wrong answer under the file's name, or several, each unde
 - that the function it changes is refused by its own proof: not proved, and not for want of a function that it calls;
 - that a fact is what is lost: no error of that proof is about a name, a form or a missing proof;
 - that the edit refuses no other function than those it changes and those that call them.
-An answer that changes a definition or a contract changes no function's code: of it, that some proof lost a fact.
+An answer that changes a contract is one of the function whose contract it is. An answer that changes a definition changes no function: of
+it, that some proof lost a fact.
 """
 
 import collections
@@ -43,7 +44,7 @@ def answers(path):
 
 
 def function_at(crate, file, old):
-    """The function whose code holds a text, by its path in the crate; None where it stands in a contract or outside all functions."""
+    """The function whose code or contract holds a text, by its path in the crate; None outside all functions."""
     if not file.startswith("src/"):
         return None
     with open(os.path.join(crates, crate, file), encoding="utf-8") as source:
@@ -53,9 +54,6 @@ def function_at(crate, file, old):
     if not heads:
         return None
     head = heads[-1]
-    body = re.compile(r"^[ ]*\{", re.M).search(text, head.start())
-    if not body or at < body.start():
-        return None
     module = file[len("src/") : -len(".rt")]
     path = () if module in ("lib", "main") else tuple(module.split("/"))
     if head.group(1):  # a method, of the type before it

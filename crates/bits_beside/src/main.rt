@@ -142,6 +142,31 @@ fn put_differs(s: &[u8], n: u8, from: u32, v: u32, out: &mut [u8]) -> u32
     1
 }
 
+// Some octet, another for each place.
+fn some(k: usize) -> u8
+    requires { ⌜ k < 256 ⌝ }
+{
+    ((k * 37 + k / 3 * 91 + 5) % 256) as u8
+}
+
+// Runs unpacked from so many octets that they are taken in turns and, where some are left, one by one.
+fn turns_differ(n: u8, o: u8) -> u32
+    requires { ⌜ (n ≤ 24) × (o < 8) ⌝ }
+    ensures { λ r. ⌜ r < 256 ⌝ }
+{
+    let mut s = [0u8; 128];
+    let mut k: usize = 0;
+    while k < 128 {
+        s[k] = some(k);
+        k += 1;
+    }
+    let mut vs = [0u32; 39];
+    if !runs::unpack(&s, o as u32, n, &mut vs, 39) {
+        return 1;
+    }
+    values_differ(&s, o as usize, n, &vs)
+}
+
 // How much differs at width n and offset o.
 fn beside(n: u8, o: u8) -> u32
     requires { ⌜ (n ≤ 24) × (o < 8) ⌝ }
@@ -201,7 +226,9 @@ fn beside(n: u8, o: u8) -> u32
     if runs::ones(&s, o as usize, bits) != ones(&s, o as usize, bits) {
         return 1;
     }
-    let wrong = values_differ(&s, o as usize, n, &vs) + fetch_differs(&s, n, o);
+    let wrong = values_differ(&s, o as usize, n, &vs)
+        + fetch_differs(&s, n, o)
+        + turns_differ(n, o);
     let v = vs[2];
     wrong
         + pack_part_differs(&vs, n, room, &mut out)

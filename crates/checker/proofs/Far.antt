@@ -2,12 +2,12 @@
 -- the loop over blocks.
 use mathlib.Core.Path.{_≡_, refl, sym, ap, ap₂, _∙_, subst}
 use mathlib.Core.Bool.{Bool, _||_, _&&_, cond}
-use mathlib.Core.List.{List, _++_}
+use mathlib.Core.List.{List}
 use Prim.Native.Nat.{ℕ, zero, suc, _+_, _*_, _^_, _<_, _≤_}
-use native.Mathlib.Nat.{add-mul, mul-le-mul}
+use native.Mathlib.Nat.{add-mul, zero-mul, mul-le-mul}
 use native.Mathlib.Numerals.{add-one}
 use native.Mathlib.Omega.{arith}
-use borrow.Author.Tests.{le-leb, eq-eqb}
+use borrow.Author.Tests.{eq-eqb}
 use lib.Dec.{eqb}
 use lib.IntN.{ℤ, pos}
 use lib.Signed.{mag}
@@ -20,13 +20,16 @@ use Rattle.bits.specs.Tables.{anyBelow}
 use Rattle.bits.proofs.Trip.{length-runs, getD-runs}
 use Rattle.bits.proofs.Ones.{count-one, count-le}
 use Rattle.bits.proofs.Below.{any-next, any-ext}
-use Rattle.runs.specs.Take.{unpackFits, unpacked}
+use Rattle.runs.specs.Take.{unpacked}
+use Rattle.runs.proofs.Lists.{unpacked-fits}
+use Rattle.bitreader.specs.Taken.{reached}
+use Rattle.bitreader.proofs.Places.{reached-sum}
 use Rattle.rules.specs.Bounds.{pointsMost, bitsMost}
 use Rattle.rules.specs.Bitmap.{markOf}
 use Rattle.rules.specs.Checking.{farFrom}
 use Rattle.laws.specs.Marks.{here}
 use Rattle.gathering.specs.Gather.{hereFrom}
-use Rattle.gathering.proofs.Here.{here-bits, here-from-bits, here-is}
+use Rattle.gathering.proofs.Here.{here-bits, here-is}
 use Rattle.source.proofs.Blocks.{Gathered, any-block, part, part-long, any-part, any-more, count-from}
 use Rattle.checker.specs.Points.{out, blockFar}
 
@@ -41,11 +44,9 @@ few-next numbers held r e j f x z h q =
 -- the X held are those of the data
 held-is : (s held d : List ℕ) (at n c : ℕ) → n ≤ bitsMost → c ≤ length d → held ≡ unpacked s at n c d → (j : ℕ) → j < c
     → getD held j 0 ≡ run (bitsIn 8 s) (at + j * n) n
-unfolding unpacked unpackFits
 held-is s held d at n c l h e j k =
     let R = runs (bitsIn 8 s) at n c in
-    let z : held ≡ R ++ drop c d = e ∙ ap₂ (λ (a b : Bool). cond (a && b) (R ++ drop c d) d) (le-leb n bitsMost l) (le-leb c (length d) h) in
-    ap (λ (x : List ℕ). getD x j 0) z
+    ap (λ (x : List ℕ). getD x j 0) (e ∙ unpacked-fits s d at n c l h)
     ∙ List·getD-append R (drop c d) 0 j (subst (λ (x : ℕ). j < x) (sym (length-runs (bitsIn 8 s) at n c)) k)
     ∙ getD-runs (bitsIn 8 s) at n c j k
 
@@ -94,45 +95,48 @@ module _ (s : List ℕ) (numbers : List ℤ) (marks : List ℕ) (i at n : ℕ) (
       p ∙ ap (λ (v : ℤ). anyBelow (λ j. farFrom (getD chosen j (pos 0)) v (run (bitsIn 8 s) (at + j * n) n) e) m) er
       ∙ any-block numbers marks i m chosen h (λ j x. farFrom x r (run (bitsIn 8 s) (at + j * n) n) e)
 
--- no points, and a block more
-pub none-passed : (marks : List ℕ) → 0 ≡ count (here marks) 0 0
+-- the place of the next X: of no points, and a block further on
+pub place-first : (marks : List ℕ) (from n : ℕ) → from ≡ from + count (here marks) 0 0 * n
 unfolding count
-none-passed marks = refl
+place-first marks from n = omega (arith, zero-mul n)
 
-pub passed-more : (numbers : List ℤ) (marks : List ℕ) (i c : ℕ) (l : i + c ≤ length numbers) (passed m : ℕ)
-    → passed ≡ count (here marks) 0 i
-    → m ≡ count (hereFrom marks i) 0 (length (part numbers i c l)) → passed + m ≡ count (here marks) 0 (i + c)
-passed-more numbers marks i c l passed m h k =
-    ap₂ (λ (x y : ℕ). x + y) h (k ∙ ap (count (hereFrom marks i) 0) (part-long numbers i c l)) ∙ count-from marks i c
+-- its bits are no more than those of a whole field
+most-bits : (m n : ℕ) → m ≤ pointsMost → n ≤ bitsMost → m * n ≤ pointsMost * bitsMost
+most-bits m n h w = mul-le-mul {n₂ = pointsMost} {m₂ = bitsMost} h w
+
+pub place-next : (numbers : List ℤ) (marks : List ℕ) (from n i c : ℕ) (l : i + c ≤ length numbers) (p q : ℕ)
+    → p ≡ from + count (here marks) 0 i * n
+    → q ≡ reached p (count (hereFrom marks i) 0 (length (part numbers i c l)) * n)
+    → from < 2 ^ 31 → length numbers ≤ pointsMost → n ≤ bitsMost → q ≡ from + count (here marks) 0 (i + c) * n
+place-next numbers marks from n i c l p q h k a b w =
+    let passed = count (here marks) 0 i in
+    let m = count (hereFrom marks i) 0 c in
+    let t : (passed + m) * n ≡ count (here marks) 0 (i + c) * n = ap (λ (x : ℕ). x * n) (count-from marks i c) in
+    let few = most-bits (count (here marks) 0 (i + c)) n (omega (arith, count-le (here-bits marks) 0 (i + c))) w in
+    k ∙ ap (λ (x : ℕ). reached p (count (hereFrom marks i) 0 x * n)) (part-long numbers i c l)
+    ∙ reached-sum p (m * n) (omega (arith, add-mul passed m n))
+    ∙ omega (arith, add-mul passed m n)
 
 module _ (s : List ℕ) (numbers : List ℤ) (marks : List ℕ) (from n : ℕ) (r : ℤ) (e i c : ℕ) (l : i + c ≤ length numbers)
-    (passed : ℕ) (h : passed ≡ count (here marks) 0 i) where
+    (p : ℕ) (h : p ≡ from + count (here marks) 0 i * n) where
   pub far-more : (x y : Bool) → x ≡ anyBelow (out s numbers marks from n r e) i
-      → y ≡ anyBelow (blockFar s (part numbers i c l) marks i (from + passed * n) n r e) (length (part numbers i c l))
+      → y ≡ anyBelow (blockFar s (part numbers i c l) marks i p n r e) (length (part numbers i c l))
       → x || y ≡ anyBelow (out s numbers marks from n r e) (i + c)
   unfolding out blockFar
   far-more x y ex ey =
       ap₂ (λ (a b : Bool). a || b) ex
       (ey ∙ any-part numbers i c l
       (λ j v. eqb (markOf marks (i + j)) 1
-      && farFrom v r (run (bitsIn 8 s) (from + passed * n + count (hereFrom marks i) 0 j * n) n) e)
+      && farFrom v r (run (bitsIn 8 s) (p + count (hereFrom marks i) 0 j * n) n) e)
       ∙ any-ext _ _ c
       (λ j _. ap
-      (λ (p : ℕ). eqb (markOf marks (i + j)) 1 && farFrom (getD numbers (i + j) (pos 0)) r (run (bitsIn 8 s) p n) e)
+      (λ (o : ℕ). eqb (markOf marks (i + j)) 1 && farFrom (getD numbers (i + j) (pos 0)) r (run (bitsIn 8 s) o n) e)
       (place j)))
       ∙ any-more (out s numbers marks from n r e) i c
     where
-      place : (j : ℕ) → from + passed * n + count (hereFrom marks i) 0 j * n ≡ from + count (here marks) 0 (i + j) * n
-      place j =
-          let t : count (here marks) 0 (i + j) ≡ passed + count (hereFrom marks i) 0 j = sym (ap (λ (x : ℕ). x + count (hereFrom marks i) 0 j) h ∙ count-from marks i j) in
-          omega (arith, add-mul passed (count (hereFrom marks i) 0 j) n, ap (λ (x : ℕ). x * n) t)
-
--- its place fits
-pub place-room : (marks : List ℕ) (n i passed : ℕ) → passed ≡ count (here marks) 0 i → i ≤ pointsMost → n ≤ bitsMost
-    → (passed ≤ i) × (passed * n ≤ pointsMost * bitsMost)
-place-room marks n i passed h k b =
-    let m : passed ≤ i = subst (λ (x : ℕ). x ≤ i) (sym h) (count-le (here-bits marks) 0 i) in
-    (m, mul-le-mul {n₂ = pointsMost} {m₂ = bitsMost} (omega arith) b)
-
-pub passed-few : (marks : List ℕ) (i m c : ℕ) → m ≡ count (hereFrom marks i) 0 c → m ≤ c
-passed-few marks i m c h = subst (λ (x : ℕ). x ≤ c) (sym h) (count-le (here-from-bits marks i) 0 c)
+      place : (j : ℕ) → p + count (hereFrom marks i) 0 j * n ≡ from + count (here marks) 0 (i + j) * n
+      place j = omega (
+        arith,
+        add-mul (count (here marks) 0 i) (count (hereFrom marks i) 0 j) n,
+        ap (λ (x : ℕ). x * n) (count-from marks i j),
+      )

@@ -19,6 +19,8 @@ use Rattle.bits.proofs.Runs.{run-lt, bitsIn-bits}
 use Rattle.rules.specs.declared.{Places.Places, Bitmap.Bitmap, Packing.Packing, Scale.Scale, Signed.Signed}
 use Rattle.rules.specs.declared.{Header.Header}
 use Rattle.rules.specs.Bounds.{bdsHead, bitsMost, stepMost}
+use Rattle.bitreader.specs.Taken.{dataPlace as dataFrom}
+use Rattle.bitreader.proofs.Places.{data-begins}
 use Rattle.rules.specs.Table.{anyOf, orAll}
 use Rattle.rules.specs.Numbers.{signed}
 use Rattle.rules.specs.Places.{pdsStart, hasGrid, hasBitmap, placesOf, sectionAt, after}
@@ -107,8 +109,14 @@ module _ (s : List ℕ) (lent : Lent) (h : Header) (e : h ≡ headerOf s lent) (
       let p = none-of (packingFaults (packingIn s)) (judged s lent (subst T (sym (S.taken s lent h e z)) tt) .packing) in
       subst (λ (x : Packing). x .bits ≤ bitsMost) (sym (S.packing-of s lent h e z)) (ltb-false _ _ (p .1 .0))
 
-  pub data-start : h .places .bds .start < 2 ^ 26
+  data-start : h .places .bds .start < 2 ^ 26
   data-start = subst (λ (x : Places). x .bds .start < 2 ^ 26) (sym (S.places-of s lent h e z)) (start-small s)
+
+  pub data-begun : (at : ℕ) → at ≡ dataFrom (h .places .bds .start) → at ≡ (h .places .bds .start + bdsHead) * 8
+  data-begun at q = q ∙ data-begins (h .places .bds .start) (omega (arith, data-start))
+
+  pub data-early : (at : ℕ) → at ≡ dataFrom (h .places .bds .start) → at < 2 ^ 31
+  data-early at q = omega (arith, data-start, data-begun at q)
 
 -- 15 and 17, from the header
 module _ (s : List ℕ) (lent : Lent) (h : Header) (e : h ≡ headerOf s lent) (z : h .refusal .number ≡ 0)

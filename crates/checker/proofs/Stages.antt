@@ -22,9 +22,10 @@ use Rattle.laws.proofs.Sources.{well-formed}
 use Rattle.message.proofs.Said as S
 use Rattle.reply.proofs.Stages.{or-append, staged}
 use Rattle.source.specs.Whole.{wholeFrom}
+use Rattle.bitreader.specs.Taken.{dataPlace}
 use Rattle.checker.specs.Points.{out}
 use Rattle.checker.specs.Stages.{checkRows}
-use Rattle.checker.proofs.Rows.{whole-is, differ-is, out-is}
+use Rattle.checker.proofs.Rows.{whole-is, differ-is, out-is, data-begun}
 
 -- the message's own rows first
 module _ (s : List ℕ) (lent : Lent) (f : Source) where
@@ -81,9 +82,11 @@ module _ (s : List ℕ) (lent : Lent) (numbers : List ℤ) (marks : List ℕ) (d
 
     module _ (h : Header) (e : h ≡ headerOf s lent) (z : h .refusal .number ≡ 0) (dv : ℤ) (ed : dv ≡ d) (rv : ℤ) (er : rv ≡ wholeFrom (h .scale .r))
         (st : ℕ) (es : anyOf (scaleFaults (h .scale)) ≡ false → st ≡ natAbs (h .scale .e .value)) where
-      abbrev outs : ℤ → ℕ → Bool
-      outs r e = anyBelow (out s numbers marks ((h .places .bds .start + bdsHead) * 8) (h .packing .bits) r e)
-          (length numbers)
+      abbrev outs : ℕ → ℤ → ℕ → Bool
+      outs at r e = anyBelow (out s numbers marks at (h .packing .bits) r e) (length numbers)
+
+      abbrev begun : ℕ
+      begun = (h .places .bds .start + bdsHead) * 8
 
       pub first-of : (u : Bool)
           → u ≡ anyBelow
@@ -91,12 +94,13 @@ module _ (s : List ℕ) (lent : Lent) (numbers : List ℤ) (marks : List ℕ) (d
           (eqb (presentBy (h .bitmap)
           (bitmapOctets s (lent .octets) (inForce (h .bitmap) (h .places .bms) (length numbers))) i)
           (markOf marks i))) (length numbers)
-          → (td : Bool) → td ≡ decimalDiffers (toZ w32 (ofZ w32 (h .d .value))) dv → (x : Bool) → x ≡ outs rv st
+          → (td : Bool) → td ≡ decimalDiffers (toZ w32 (ofZ w32 (h .d .value))) dv
+          → (at : ℕ) → at ≡ dataPlace (h .places .bds .start) → (x : Bool) → x ≡ outs at rv st
           → (b16 : Bool) → b16 ≡ anyOf (scaleFaults (h .scale))
           → (r0 r15 r16 r17 : Refusal) → r0 ≡ refusal 0 → r17 ≡ cond x (refusal 17) r0 → r16 ≡ cond b16 (refusal 16) r17
           → r15 ≡ cond (not (eqb (length numbers) (h .points)) || u || td) (refusal 15) r16 → r15 ≡ reply
       unfolding firstOr checkRows
-      first-of u eu td et x ex b16 e16 r0 r15 r16 r17 p0 p17 p16 p15 =
+      first-of u eu td et at ea x ex b16 e16 r0 r15 r16 r17 p0 p17 p16 p15 =
           let g = S.scale-of s lent h e z in
           rw (sym t ∙ b)
           (p15 ∙ ap (cond (not (eqb (length numbers) (h .points)) || u || td) (refusal 15))
@@ -104,8 +108,9 @@ module _ (s : List ℕ) (lent : Lent) (numbers : List ℤ) (marks : List ℕ) (d
           ∙ answers _ _ _ _ _ _ (differ-is s lent h e z numbers marks d dv ed u td et eu)
           (e16 ∙ ap (λ (y : Scale). anyOf (scaleFaults y)) g)
           (λ f15 f16. out-is s lent h e z numbers marks d (sym t ∙ b) f15 x
-          (ex ∙ scaled (ap (λ (y : Scale). anyOf (scaleFaults y)) g ∙ f16))))
+          (ex ∙ ap (λ (p : ℕ). outs p rv st) (data-begun s lent h e z at ea)
+          ∙ scaled (ap (λ (y : Scale). anyOf (scaleFaults y)) g ∙ f16))))
         where
           scaled : anyOf (scaleFaults (h .scale)) ≡ false
-              → outs rv st ≡ outs (wholeOf (h .scale .r)) (natAbs (h .scale .e .value))
-          scaled f = ap₂ outs (er ∙ whole-is (h .scale) f) (es f)
+              → outs begun rv st ≡ outs begun (wholeOf (h .scale .r)) (natAbs (h .scale .e .value))
+          scaled f = ap₂ (outs begun) (er ∙ whole-is (h .scale) f) (es f)

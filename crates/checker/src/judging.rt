@@ -10,11 +10,11 @@ use crate::points::any_far;
 use crate::points::marks_differ;
 use crate::steps::scale_bad;
 use crate::steps::step_of;
+use bitreader::data_place;
 use reply::refusal;
 use reply::refuse;
 use rules::Header;
 use rules::Refusal;
-use rules::bounds::BDS_HEAD;
 use source::decimal_differs;
 use source::source_bad;
 use source::whole_of;
@@ -43,7 +43,7 @@ pub(crate) fn judge(
     let bitmap = h.bitmap;
     let packing = h.packing;
     let scale = h.scale;
-    let from = (places.bds.start + BDS_HEAD) * 8;
+    let from = data_place(places.bds.start);
     let unlike = marks_differ(s, store, places.bms, bitmap, marks, n);
     let differ = (n != h.points) | unlike | decimal_differs(h.d.value, d);
     let out = any_far(

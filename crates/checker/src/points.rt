@@ -1,6 +1,6 @@
 // The points: the source's marks are compared with the message's (15), and each present number with what the message
-// says of it (17). The numbers at the present points of a block are gathered, as many X unpacked, and both compared,
-// each in a loop of its own without a branch on a mark. Where every point is present nothing is gathered.
+// says of it (17). The numbers at the present points of a block are gathered, as many X taken, and both compared, each
+// in a loop of its own without a branch on a mark. Where every point is present nothing is gathered.
 ghost use mathlib.Core.Path.{_≡_};
 ghost use mathlib.Core.Bool.{not, true};
 ghost use Prim.Native.Nat.{ℕ, _+_, _*_, _^_, _<_, _≤_};
@@ -12,16 +12,17 @@ ghost use Rattle.bits.specs.Tables.{anyBelow};
 ghost use Rattle.rules.specs.Bounds.{pointsMost, bitsMost, stepMost};
 ghost use Rattle.rules.specs.Bitmap.{markOf, marksLong, presentBy, bitmapOctets, inForce};
 ghost use Rattle.rules.specs.Checking.{farFrom};
+ghost use Rattle.bitreader.specs.Taken.{reached};
 ghost use Rattle.gathering.specs.Gather.{hereFrom};
 ghost use Rattle.checker.specs.Points.{out as isOut, blockFar};
 use crate::steps::far;
+use bitreader::take_all;
 use gathering::gather_numbers;
 use marks::all_present;
 use marks::unlike;
 use rules::Bitmap;
 use rules::Part;
 use rules::bounds::BMS_HEAD;
-use runs::unpack;
 
 // Whether a mark of n points is not the message's, by the kind of its bitmap.
 pub(crate) fn marks_differ(
@@ -59,6 +60,12 @@ fn next_few(left: usize) -> usize
     BLOCK
 }
 
+// Whether one of so many points is out, and the bit place reached in the data after their X.
+struct Turn {
+    out: bool,
+    at: u32,
+}
+
 // Whether one of the first c numbers is out, the X being those held.
 fn few_far(numbers: &[i32], held: &[u32], c: usize, r: i32, e: u32) -> bool
     requires { ⌜ (e ≤ stepMost) × ((c ≤ length (now numbers)) × (c ≤ length (now held))) ⌝ }
@@ -84,25 +91,24 @@ fn far_at(
     held: &mut [u32],
     r: i32,
     e: u32,
-) -> bool
+) -> Turn
     requires { ⌜ (e ≤ stepMost) × (n ≤ bitsMost) ⌝ }
     requires { ⌜ (c ≤ length (now numbers)) × ((c ≤ length (now held)) × (c < 2 ^ 32)) ⌝ }
-    ensures { λ q. ⌜ q ≡
+    ensures { λ q. ⌜ q .at ≡ reached at (c * n) ⌝ }
+    ensures { λ q. ⌜ q .out ≡
         anyBelow
         (λ j. farFrom (getD (now (numbers .entry)) j (pos 0)) r (run (bitsIn 8 (now (s .entry))) (at + j * n) n) e)
         c ⌝ }
 {
-    unpack(s, at, n, held, c as u32);
-    few_far(numbers, held, c, r, e)
+    let taken = take_all(s, at, n, held, c as u32);
+    Turn {
+        out: few_far(numbers, held, c, r, e),
+        at: taken.at,
+    }
 }
 
-// Whether a present point of a block is out, and how many are present.
-struct Turn {
-    out: bool,
-    passed: usize,
-}
-
-// The block's first point is point i of all, and the X of its present points start at bit place `at`.
+// Whether a present point of a block is out: its first point is point i of all, and the X of its present points start
+// at bit place `at`.
 fn block_far(
     s: &[u8],
     at: u32,
@@ -121,23 +127,17 @@ fn block_far(
     requires { ⌜ i + length (now numbers) ≤ length (now marks) ⌝ }
     requires { ⌜ (length (now numbers) ≤ length (now chosen))
         × ((length (now numbers) ≤ length (now held)) × (length (now numbers) < 2 ^ 32)) ⌝ }
-    ensures { λ q. ⌜ q .passed ≡ count (hereFrom (now (marks .entry)) i) 0 (length (now (numbers .entry))) ⌝ }
+    ensures { λ q. ⌜ q .at ≡
+        reached at (count (hereFrom (now (marks .entry)) i) 0 (length (now (numbers .entry))) * n) ⌝ }
     ensures { λ q. ⌜ q .out ≡
         anyBelow (blockFar (now (s .entry)) (now (numbers .entry)) (now (marks .entry)) i at n r e)
         (length (now (numbers .entry))) ⌝ }
 {
-    let c = numbers.len();
     if all {
-        return Turn {
-            out: far_at(s, at, n, numbers, c, held, r, e),
-            passed: c,
-        };
+        return far_at(s, at, n, numbers, numbers.len(), held, r, e);
     }
     let m = gather_numbers(numbers, marks, i, chosen);
-    Turn {
-        out: far_at(s, at, n, chosen, m, held, r, e),
-        passed: m,
-    }
+    far_at(s, at, n, chosen, m, held, r, e)
 }
 
 // Whether a present point is out by more than half a step. The data's values have n bits each, from bit place `from`
@@ -161,11 +161,10 @@ pub(crate) fn any_far(
     let mut chosen = [0i32; BLOCK];
     let mut held = [0u32; BLOCK];
     let mut out = false;
-    let mut passed: u32 = 0;
+    let mut at = from;
     let mut i: usize = 0;
     while i < numbers.len() {
         let c = next_few(numbers.len() - i);
-        let at = from + passed * n as u32;
         let turn = block_far(
             s,
             at,
@@ -180,7 +179,7 @@ pub(crate) fn any_far(
             e,
         );
         out = out | turn.out;
-        passed += turn.passed as u32;
+        at = turn.at;
         i += c;
     }
     out

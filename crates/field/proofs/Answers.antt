@@ -27,6 +27,8 @@ use Rattle.laws.proofs.Judged.{own-zero, judged}
 use Rattle.laws.proofs.Data.{data-runs}
 use Rattle.laws.proofs.Sections.{sections}
 use Rattle.laws.proofs.Bounded.{bitmap-inside}
+use Rattle.bitreader.specs.Taken.{dataPlace}
+use Rattle.bitreader.proofs.Places.{data-begins}
 use Rattle.marks.specs.Marks.{markedBy}
 use Rattle.marks.proofs.Bitmaps.{marked-fits}
 use Rattle.message.proofs.Stages.{one-more}
@@ -143,6 +145,13 @@ module _ (s : List ℕ) (lent : Lent) (v w : List ℕ) where
       valuesBy q = scattered (by q)
           (runs (bitsIn 8 s) ((q .places .bds .start + bdsHead) * 8) (q .packing .bits) (q .present)) (q .points)
 
+      -- where the values begin
+      abbrev begun : ℕ → List ℕ
+      begun at = scattered (by h) (runs (bitsIn 8 s) at (h .packing .bits) (h .present)) (h .points)
+
+      begins : dataPlace (h .places .bds .start) ≡ (h .places .bds .start + bdsHead) * 8
+      begins = data-begins (h .places .bds .start) (omega (arith, early))
+
       values-are : valuesBy h ++ drop (h .points) v ≡ valuesIn s lent ++ drop (length (valuesIn s lent)) v
       unfolding valuesIn presentIn inForceIn foundIn foundBy parsedOf scattered
       values-are =
@@ -159,14 +168,16 @@ module _ (s : List ℕ) (lent : Lent) (v w : List ℕ) where
           ∙ ap (λ (q : Header). tab (by q) (q .points) ++ drop (q .points) w) (S.said s lent h e z)
           ∙ ap (λ (k : ℕ). marksIn s lent ++ drop k w) (sym (length-tab _ (pointsIn s)))
 
-      pub done : (k : ℕ) → k ≡ marksLong (h .points) → tested k ≡ false → (x y : List ℕ)
-          → x ≡ valuesBy h ++ drop (h .points) v → y ≡ markedBy (by h) (h .points) w → Answered h x y
+      pub done : (k : ℕ) → k ≡ marksLong (h .points) → tested k ≡ false → (at : ℕ)
+          → at ≡ dataPlace (h .places .bds .start)
+          → (x y : List ℕ) → x ≡ begun at ++ drop (h .points) v → y ≡ markedBy (by h) (h .points) w → Answered h x y
       unfolding headerOf readOf valuesAfter marksAfter filled
-      done k l q x y a b =
+      done k l q at p x y a b =
           let r = refusal-is k l false q in (
             e ∙ ap (λ (k : Refusal). answerBy k s lent) (own ∙ sym r),
             (
-              a ∙ values-are ∙ sym (ap (λ (k : Refusal). filled k (valuesIn s lent) v) r),
+              a ∙ ap (λ (o : ℕ). begun o ++ drop (h .points) v) (p ∙ begins) ∙ values-are
+                  ∙ sym (ap (λ (k : Refusal). filled k (valuesIn s lent) v) r),
               b ∙ marks-are (room k l q .1) ∙ sym (ap (λ (k : Refusal). filled k (marksIn s lent) w) r),
             ),
           )

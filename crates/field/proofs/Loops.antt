@@ -1,20 +1,18 @@
 -- What the loops over values and marks leave: unpacked to the front, spread to their points; each from the loops' own
 -- promises.
 use mathlib.Core.Path.{_≡_, sym, ap, _∙_}
-use mathlib.Core.Bool.{true}
 use mathlib.Core.List.{List, _++_}
 use Prim.Native.Nat.{ℕ, _+_, _*_, _≤_}
 use native.Mathlib.Nat.{zero-add}
 use native.Mathlib.Omega.{arith}
-use borrow.Author.Tests.{le-leb}
-use lib.Dec.{leb}
 use lib.ListN.{length, drop}
 use Rattle.bits.specs.Bits.{bitsIn, count, runs}
 use Rattle.bits.specs.Tables.{tab}
 use Rattle.bits.proofs.Runs.{bitsIn-bits}
 use Rattle.bits.proofs.Ones.{count-le}
 use Rattle.bits.proofs.Trip.{length-runs}
-use Rattle.runs.specs.Take.{unpackFits, unpacked}
+use Rattle.runs.specs.Take.{unpacked}
+use Rattle.runs.proofs.Lists.{unpacked-fits}
 use Rattle.rules.specs.Points.{valueAt, scattered}
 use Rattle.marks.specs.Marks.{markedBy}
 use Rattle.marks.proofs.Bitmaps.{marked-ext}
@@ -22,11 +20,7 @@ use Rattle.field.proofs.Spreading.{spread-front}
 
 pub unpack-done : (s v o : List ℕ) (at n m : ℕ) → n ≤ 24 → m ≤ length v → o ≡ unpacked s at n m v
     → o ≡ runs (bitsIn 8 s) at n m ++ drop m v
-unfolding unpacked unpackFits
-unpack-done s v o at n m a b e =
-    let p : leb n 24 ≡ true = le-leb n 24 a in
-    let q : leb m (length v) ≡ true = le-leb m (length v) b in
-    e ∙ rw (p, q)
+unpack-done s v o at n m a b e = e ∙ unpacked-fits s v at n m a b
 
 -- no more points are present than there are
 pub few : (bm : List ℕ) (n m l : ℕ) → m ≡ count (bitsIn 8 bm) 0 n → n ≤ l → m ≤ l

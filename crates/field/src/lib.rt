@@ -8,12 +8,12 @@ mod lists; // lists.rt: values and marks by the kind of bitmap
 mod spread; // spread.rt: values to their points through a bitmap
 
 use crate::lists::fill_lists;
+use bitreader::data_place;
 use marks::long;
 use message::header;
 use message::refused;
 use reply::refusal;
 use rules::Header;
-use rules::bounds::BDS_HEAD;
 
 // The header of a message, with its values and marks put at the front of the lent lists.
 pub fn read(s: &[u8], number: u16, store: &[u8], values: &mut [u32], marks: &mut [u8]) -> Header
@@ -34,7 +34,7 @@ pub fn read(s: &[u8], number: u16, store: &[u8], values: &mut [u32], marks: &mut
     }
     let bitmap = h.bitmap;
     let bms = h.places.bms;
-    let at = (h.places.bds.start + BDS_HEAD) * 8;
+    let at = data_place(h.places.bds.start);
     fill_lists(
         s,
         store,

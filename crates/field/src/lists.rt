@@ -10,11 +10,11 @@ ghost use Rattle.rules.specs.Places.{after};
 ghost use Rattle.rules.specs.Points.{scattered};
 ghost use Rattle.marks.specs.Marks.{markedBy};
 use crate::spread::spread;
+use bitreader::take_all;
 use marks::fill;
 use marks::fill_all;
 use rules::Bitmap;
 use rules::Part;
-use runs::unpack;
 
 // n points, all present: their values of so many bits each stand one after another from bit place `at` on.
 fn all_present(s: &[u8], at: u32, bits: u8, n: u32, values: &mut [u32], marks: &mut [u8])
@@ -23,12 +23,12 @@ fn all_present(s: &[u8], at: u32, bits: u8, n: u32, values: &mut [u32], marks: &
     ensures { λ _. ⌜ now (values .exit) ≡ runs (bitsIn 8 (now (s .entry))) at bits n ++ drop n (now (values .entry)) ⌝ }
     ensures { λ _. ⌜ now (marks .exit) ≡ markedBy (λ _. 1) n (now (marks .entry)) ⌝ }
 {
-    unpack(s, at, bits, values, n);
+    take_all(s, at, bits, values, n);
     fill_all(n, marks);
 }
 
 // n points, m of them present by the bitmap: the present ones' values stand one after another from bit place `at` on.
-// They are unpacked to the front of the list and spread from there, so nothing else is lent.
+// They are taken to the front of the list and spread from there, so nothing else is lent.
 fn some_present(
     s: &[u8],
     at: u32,
@@ -48,7 +48,7 @@ fn some_present(
         ++ drop n (now (values .entry)) ⌝ }
     ensures { λ _. ⌜ now (marks .exit) ≡ markedBy (bitsIn 8 (now (bitmap .entry))) n (now (marks .entry)) ⌝ }
 {
-    unpack(s, at, bits, values, m);
+    take_all(s, at, bits, values, m);
     spread(bitmap, values, n as usize, m as usize);
     fill(bitmap, 0, n, marks);
 }

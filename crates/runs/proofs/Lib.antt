@@ -1,3 +1,3 @@
 pub mod Bits
 pub mod Lists
-pub mod Twelve
+pub mod Parts

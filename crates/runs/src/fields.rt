@@ -4,6 +4,7 @@ ghost use mathlib.Core.Path.{_≡_};
 ghost use Prim.Native.Nat.{_*_, _^_, _<_, _≤_};
 ghost use Rattle.bits.specs.Bits.{bitsIn, run};
 ghost use Rattle.runs.specs.Take.{fetched};
+use crate::words::part;
 use crate::words::wide;
 use crate::words::word;
 use octets::at;
@@ -27,7 +28,7 @@ pub(crate) fn taken(s: &[u8], from: usize, n: usize) -> u32
     ensures { λ r. ⌜ r ≡ run (bitsIn 8 (now (s .entry))) from n ⌝ }
 {
     let all = five(s, from / 8);
-    ((all >> (40 - from % 8 - n)) % (1 << n)) as u32
+    part(all, 40 - from % 8 - n, n)
 }
 
 // The number that the n bits from bit place `from` on make, and 0 where n is over 32.

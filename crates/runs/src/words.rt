@@ -1,6 +1,6 @@
-// The numbers that four and eight octets in memory make.
+// The numbers that four and eight octets in memory make, and parts of such a number.
 ghost use mathlib.Core.Path.{_≡_};
-ghost use Prim.Native.Nat.{_+_, _*_, _<_, _≤_};
+ghost use Prim.Native.Nat.{_+_, _*_, _/_, _%_, _^_, _<_, _≤_};
 ghost use lib.ListN.{length};
 ghost use Rattle.bits.specs.Bits.{bitsIn, run};
 
@@ -25,4 +25,21 @@ pub(crate) fn word8(s: &[u8], k: usize) -> u64
     ensures { λ r. ⌜ r ≡ run (bitsIn 8 (now (s .entry))) (k * 8) 64 ⌝ }
 {
     word(s, k) * 4294967296 + word(s, k + 4)
+}
+
+// The number that the first c bits of the eight octets from octet k on make.
+pub(crate) fn leading(s: &[u8], k: usize, c: usize) -> u64
+    requires { ⌜ k + 8 ≤ length (now s) ⌝ }
+    requires { ⌜ (0 < c) × (c ≤ 64) ⌝ }
+    ensures { λ r. ⌜ r ≡ run (bitsIn 8 (now (s .entry))) (k * 8) c ⌝ }
+{
+    word8(s, k) >> (64 - c)
+}
+
+// The number that n bits of w make, of which `up` bits follow.
+pub(crate) fn part(w: u64, up: usize, n: usize) -> u32
+    requires { ⌜ (up < 64) × (n ≤ 32) ⌝ }
+    ensures { λ r. ⌜ r ≡ w / 2 ^ up % 2 ^ n ⌝ }
+{
+    ((w >> up) % (1 << n)) as u32
 }

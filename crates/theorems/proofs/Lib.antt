@@ -21,6 +21,7 @@ pub mod EachKind
 pub mod Offered
 pub mod Reoffered
 pub mod Points
+pub mod InTurn
 pub mod Told
 pub mod ReadBack
 pub mod Returned

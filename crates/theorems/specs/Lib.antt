@@ -7,3 +7,4 @@ pub mod Reads
 pub mod Returns
 pub mod Checks
 pub mod Kinds
+pub mod Turns

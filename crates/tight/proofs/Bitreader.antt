@@ -3,7 +3,7 @@
 use mathlib.Core.Path.{refl, sym, _∙_}
 use Rattle.bitreader.proofs as contracts
 use Rattle.tight.specs.Tight.{Tight}
-use Rattle.tight.proofs.Laws.{by-clause, by-reply}
+use Rattle.tight.proofs.Laws.{by-clause, by-reply, by-list}
 
 pub new : Tight contracts.new.ended λ M. contracts.new.clauses
 new k g h x y ws vs =
@@ -18,3 +18,12 @@ moved k g h x y ws vs =
 
 pub take : Tight contracts.take.ended λ M. contracts.take.clauses
 take k g h x y ws vs = by-reply k refl
+
+pub «next_all» : Tight contracts.next_all.ended λ M. contracts.next_all.clauses
+«next_all» k g h x y ws vs = by-list k λ e i. (tt, (tt, (e i, (tt, tt))))
+
+pub «take_all» : Tight contracts.take_all.ended λ M. contracts.take_all.clauses
+«take_all» k g h x y ws vs = by-list k λ e i. (tt, (tt, (tt, (e i, (tt, tt)))))
+
+pub «data_place» : Tight contracts.data_place.ended λ M. contracts.data_place.clauses
+«data_place» k g h x y ws vs = by-reply k refl

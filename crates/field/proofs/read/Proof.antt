@@ -1,6 +1,5 @@
 -- Reading a field: refused by the message's own rows, by 14, or both lists filled; each from the header and one more
 -- row.
-use native.Mathlib.Omega.{arith}
 use Prim.Native.Nat.{_-_}
 use borrow.Author.Needs.{needs}
 use Rattle.field.proofs.Answers as A
@@ -23,20 +22,6 @@ returns-2 c =
     A.too-short _ _ (a .values .now) (a .marks .now) _ (asked .header .ensures) (other .if1 .left) _
     (long .long .ensures) (short .if2 .taken) _ (c .before .refusal .ensures) _ (c .refused .ensures)
 
-add-at : tie.Need-add-at
-add-at c =
-    let other = c .before .before .before .before in
-    let asked = other .before .before in
-    let a = asked .before .before .before .before .before .args in
-    omega (arith, A.early _ _ (a .values .now) (a .marks .now) _ (asked .header .ensures) (other .if1 .left))
-
-mul-at : tie.Need-mul-at
-mul-at c =
-    let other = c .before .before .before .before in
-    let asked = other .before .before in
-    let a = asked .before .before .before .before .before .args in
-    omega (arith, A.early _ _ (a .values .now) (a .marks .now) _ (asked .header .ensures) (other .if1 .left))
-
 fill-lists-requires : tie.Need-fill-lists-requires
 fill-lists-requires c κs =
     let fits = c .before .before .before .before in
@@ -54,13 +39,15 @@ fill-lists-requires c κs =
 returns-3 : tie.Need-returns-3
 returns-3 c =
     let filled = c .before .before .before .before in
-    let fits = filled .before .before .before .before .before in
+    let place = filled .before .before .before in
+    let fits = place .before .before in
     let long = fits .before in
     let other = long .before in
     let asked = other .before .before in
     let a = asked .before .before .before .before .before .args in
     A.done _ _ (a .values .now) (a .marks .now) _ (asked .header .ensures) (other .if1 .left) _ (long .long .ensures)
-    (fits .if2 .left) _ _ (filled .fill-lists .ensures .0) (filled .fill-lists .ensures .1)
+    (fits .if2 .left) _ (place .data-place .ensures) _ _ (filled .fill-lists .ensures .0)
+    (filled .fill-lists .ensures .1)
 
 pub read-spec : {M : Type 1} → statement M
 read-spec =
@@ -73,8 +60,7 @@ read-spec =
     (λ c κs. search needs)
     (λ c κs. search needs)
     returns-2
-    add-at
-    mul-at
+    (λ c κs. search needs)
     fill-lists-requires
     (λ c. search needs)
     (λ c. search needs)

@@ -1,10 +1,9 @@
 -- The rows 18, 15, 16 and 17: two returns, each a law of Stages over what the calls promise.
-use Rattle.checker.proofs.Rows.{bits-most, data-start}
+use Rattle.checker.proofs.Rows.{bits-most, data-early}
 use Rattle.checker.proofs.Stages.{source-refused, source-good, first-of}
 use borrow.Author.Needs.{needs}
 use native.Mathlib.Omega.{arith}
 use mathlib.Core.Path.{_∙_}
-use Prim.Native.Nat.{_<_, _^_}
 use mir.Syntax.{w32}
 use mir.Facts.{toZ-ofZ}
 use Rattle.laws.specs.Sources.{WellFormed}
@@ -27,23 +26,21 @@ good t =
     let a = start (t .before) .args in
     source-good (a .s .now) (record { number = a .number; octets = a .store .now }) (a .numbers .now) (a .marks .now) (a .d) _ (t .before .source-bad .ensures (a .d)) (t .if1 .left)
 
-begins : (t : tie.Else1) → start (t .before) .args .h .places .bds .start < 2 ^ 26
-begins t = let f = start (t .before) in data-start _ _ _ (f .pre .0) (f .pre .1)
-
 cast-n : tie.Need-cast-n
 cast-n c = record { fits = omega (arith, good c .most) }
 
-add-from : tie.Need-add-from
-add-from c = record { fits = omega (arith, begins (c .before .before .before .before)) }
-
-mul-from : tie.Need-mul-from
-mul-from c = record { fits = omega (arith, begins (c .before .before .before .before)) }
-
 any-far-requires : tie.Need-any-far-requires
 any-far-requires c κs =
-    let t = c .before .before .before .before .before .before .before .before .before .before in
+    let p = c .before .before .before .before .before .before in
+    let t = p .before .before .before .before in
     let f = start (t .before) in (
-      (c .step-of .ensures .0, (bits-most _ _ _ (f .pre .0) (f .pre .1), omega (arith, begins t))),
+      (
+        c .step-of .ensures .0,
+        (
+          bits-most _ _ _ (f .pre .0) (f .pre .1),
+          data-early _ _ _ (f .pre .0) (f .pre .1) _ (p .data-place .ensures),
+        ),
+      ),
       (good t .lists, good t .most),
     )
 
@@ -59,8 +56,8 @@ returns-2 c =
     let r = toZ-ofZ {w = w32} {z = w .whole-of .result} (record { sfits = w .whole-of .ok }) ∙ w .whole-of .ensures in
     first-of (a .s .now) _ (a .numbers .now) (a .marks .now) (a .d) _ (t .before .source-bad .ensures (a .d))
     (t .if1 .left) _ (f .pre .0) (f .pre .1) _ (toZ-ofZ (f .fits .d)) _ r _ (k .before .step-of .ensures .1)
-    _ (m .marks-differ .ensures) _ (d .decimal-differs .ensures) _ (k .any-far .ensures) _
-    (c .before .before .before .scale-bad .ensures) _ _ _ _
+    _ (m .marks-differ .ensures) _ (d .decimal-differs .ensures) _ (m .before .data-place .ensures) _
+    (k .any-far .ensures) _ (c .before .before .before .scale-bad .ensures) _ _ _ _
     (c .before .before .before .before .refusal2 .ensures) (c .before .before .refuse .ensures)
     (c .before .refuse2 .ensures) (c .refuse3 .ensures)
 
@@ -72,8 +69,7 @@ judge-spec =
     (λ c κs. search needs)
     returns
     cast-n
-    add-from
-    mul-from
+    (λ c κs. search needs)
     (λ c κs. search needs)
     (λ c κs. search needs)
     (λ c κs. search needs)

@@ -1,5 +1,5 @@
--- The points out among those passed, a block more in a turn (law far-more), with as many X passed as points are
--- present; R is read back.
+-- The points out among those passed, a block more in a turn (law far-more), with the place reached after as many X as
+-- points are present (law place-next); R is read back.
 use mathlib.Core.Path.{_≡_, refl, sym, ap₂, _∙_}
 use native.Mathlib.Omega.{arith}
 use Prim.Native.Nat.{ℕ, _≤_, _+_, _-_, _*_}
@@ -12,27 +12,28 @@ use borrow.Author.Needs.{needs}
 use Rattle.bits.specs.Bits.{count}
 use Rattle.bits.specs.Tables.{anyBelow}
 use Rattle.bits.proofs.Below.{any-none}
-use Rattle.rules.specs.Bounds.{pointsMost, bitsMost}
 use Rattle.laws.specs.Marks.{here}
 use Rattle.source.proofs.Blocks.{part, part-long}
 use Rattle.source.proofs.Field.{present-all}
 use Rattle.checker.specs.Points.{out as isOut}
-use Rattle.checker.proofs.Far.{none-passed, passed-few, passed-more, far-more, place-room}
+use Rattle.checker.proofs.Far.{place-first, place-next, far-more}
 use Rattle.checker.proofs.points.any_far.Statement.{statement}
 use Rattle.checker.proofs.points.any_far.Tie as tie
 
 abbrev Inv-loop : tie.InvT-loop
-Inv-loop s numbers marks from n r e all chosen₀ held₀ out₀ passed₀ i₀ chosen held out passed i =
+Inv-loop s numbers marks from n r e all chosen₀ held₀ out₀ at₀ i₀ chosen held out at i =
     (i ≤ length numbers)
     × ((length chosen ≡ 256)
     × ((length held ≡ 256)
-    × ((passed ≡ count (here marks) 0 i) × (out ≡ anyBelow (isOut s numbers marks from n (toZ w32 r) e) i))))
+    × ((at ≡ from + count (here marks) 0 i * n) × (out ≡ anyBelow (isOut s numbers marks from n (toZ w32 r) e) i))))
 
 abbrev μ-loop : tie.MeasureT-loop
-μ-loop s numbers marks from n r e all chosen₀ held₀ out₀ passed₀ i₀ chosen held out passed i = length numbers - i
+μ-loop s numbers marks from n r e all chosen₀ held₀ out₀ at₀ i₀ chosen held out at i = length numbers - i
 
 loop-holds : tie.Need-loop-holds Inv-loop μ-loop
-loop-holds c = (omega arith, (refl, (refl, (none-passed (c .before .before .before .args .marks .now), any-none _))))
+loop-holds c =
+    let a = c .before .before .before .args in
+    (omega arith, (refl, (refl, (place-first (a .marks .now) (a .from) (a .n), any-none _))))
 
 abbrev start : tie.After-next-few Inv-loop μ-loop → tie.Start Inv-loop μ-loop
 start n = n .before .before .before .before .before .before
@@ -45,21 +46,6 @@ long : (n : tie.After-next-few Inv-loop μ-loop)
     → length (part (start n .args .numbers .now) (n .before .before .loop .i) (n .next-few .result) (inside n))
     ≡ n .next-few .result
 long n = part-long (start n .args .numbers .now) (n .before .before .loop .i) (n .next-few .result) (inside n)
-
--- the place of a block's first X
-room : (n : tie.After-next-few Inv-loop μ-loop)
-    → let l = n .before .before .loop in (l .passed ≤ l .i) × (l .passed * start n .args .n ≤ pointsMost * bitsMost)
-room n =
-    let l = n .before .before .loop in
-    let f = start n in
-    place-room (f .args .marks .now) (f .args .n) (l .i) _ (l .inv .1 .1 .1 .0) (omega (arith, f .pre .1 .1))
-    (f .pre .0 .1 .0)
-
-mul-at : tie.Need-mul-at Inv-loop μ-loop
-mul-at c = record { fits = omega (arith, room c .1) }
-
-add-at : tie.Need-add-at Inv-loop μ-loop
-add-at c = record { fits = omega (arith, room c .1, start c .pre .0 .1 .1) }
 
 block-far-requires : tie.Need-block-far-requires Inv-loop μ-loop
 block-far-requires c κs =
@@ -81,41 +67,19 @@ block-far-requires c κs =
       ),
     )
 
-fewer : (b : tie.After-block-far Inv-loop μ-loop)
-    → b .block-far .result .passed ≤ b .before .before .before .before .next-few .result
-fewer b =
-    let n = b .before .before .before .before in
-    omega (
-      arith,
-      passed-few (start n .args .marks .now) (n .before .before .loop .i) (b .block-far .result .passed)
-          (length (part (start n .args .numbers .now) (n .before .before .loop .i) (n .next-few .result) (inside n)))
-          (b .block-far .ensures .0),
-      long n,
-    )
-
-cast-passed : tie.Need-cast-passed Inv-loop μ-loop
-cast-passed c =
-    let b = c .before .before .before .before in
-    record { fits = omega (arith, fewer b, b .before .before .before .before .next-few .ensures .1 .0) }
-
-add-passed : tie.Need-add-passed Inv-loop μ-loop
-add-passed c =
-    let b = c .before .before .before .before in
-    let n = b .before .before .before .before in
-    record { fits = omega (arith, fewer b, room n .0, inside n, start n .pre .1 .1) }
-
 loop-less : tie.Need-loop-less Inv-loop μ-loop
 loop-less c =
-    let n = c .before .before .before .before .before .before .before .before in
+    let n = c .before .before .before .before .before .before .before in
     omega (arith, n .next-few .ensures .0, n .next-few .ensures .1 .1 (omega arith))
 
 loop-again : tie.Need-loop-again Inv-loop μ-loop
 loop-again c =
-    let b = c .before .before .before .before in
+    let b = c .before .before .before in
     let n = b .before .before .before .before in
     let l = n .before .before .loop in
     let i = l .inv .1 .1 .1 in
     let a = start n .args in
+    let p = start n .pre in
     let k = b .block-far .kept .1 .1 .1 .1 .1 .1 .1 in (
       inside n,
       (
@@ -123,8 +87,8 @@ loop-again c =
         (
           k .1 .0 ∙ l .inv .1 .1 .0,
           (
-            passed-more (a .numbers .now) (a .marks .now) (l .i) (n .next-few .result) (inside n) _ _ (i .0)
-                (b .block-far .ensures .0),
+            place-next (a .numbers .now) (a .marks .now) (a .from) (a .n) (l .i) (n .next-few .result) (inside n) _ _
+                (i .0) (b .block-far .ensures .0) (p .0 .1 .1) (p .1 .1) (p .0 .1 .0),
             far-more (a .s .now) (a .numbers .now) (a .marks .now) (a .from) (a .n) _ (a .e) (l .i)
                 (n .next-few .result) (inside n) _ (i .0) _ _ (i .1) (b .block-far .ensures .1),
           ),
@@ -153,8 +117,6 @@ any-far-spec =
     loop-holds
     (λ c. search needs)
     (λ c κs. search needs)
-    mul-at
-    add-at
     (λ c. search needs)
     (λ c. search needs)
     (λ c. search needs)
@@ -163,8 +125,6 @@ any-far-spec =
     (λ c. search needs)
     (λ c. search needs)
     block-far-requires
-    cast-passed
-    add-passed
     (λ c. search needs)
     loop-less
     loop-again

@@ -1,7 +1,10 @@
 -- A block of which each point is present (law all-out), or some (law some-out); R is read back.
+use mathlib.Core.Path.{ap, _∙_}
+use Prim.Native.Nat.{ℕ, _*_}
 use native.Mathlib.Omega.{arith}
 use mir.Facts.{toZ-ofZ}
 use borrow.Author.Needs.{needs}
+use Rattle.bitreader.specs.Taken.{reached}
 use Rattle.source.proofs.Blocks.{Gathered, gathered-block, no-more}
 use Rattle.checker.proofs.Far.{count-all, all-out, some-out}
 use Rattle.checker.proofs.points.block_far.Statement.{statement}
@@ -14,9 +17,9 @@ returns c =
     let f = t .before .before .before .before in
     let a = f .args in
     let h = f .pre .1 .0 (t .if1 .taken) in (
-      count-all (a .marks .now) (a .i) _ h,
+      k .far-at .ensures .0 ∙ ap (λ (x : ℕ). reached (a .at) (x * a .n)) (count-all (a .marks .now) (a .i) _ h),
       all-out (a .s .now) (a .numbers .now) (a .marks .now) (a .i) (a .at) (a .n) _
-          _ (toZ-ofZ (f .fits .r)) (a .e) h _ (k .far-at .ensures),
+          _ (toZ-ofZ (f .fits .r)) (a .e) h _ (k .far-at .ensures .1),
     )
 
 abbrev start : tie.After-gather-numbers → tie.Start
@@ -47,9 +50,9 @@ returns-2 c =
     let g = k .before .before .before .before in
     let f = start g in
     let a = f .args in (
-      gathered g .many,
+      k .far-at2 .ensures .0 ∙ ap (λ (x : ℕ). reached (a .at) (x * a .n)) (gathered g .many),
       some-out (a .s .now) (a .numbers .now) (a .marks .now) (a .i) (a .at) (a .n) _ _
-          (toZ-ofZ (f .fits .r)) (a .e) _ _ (gathered g) _ (k .far-at2 .ensures),
+          (toZ-ofZ (f .fits .r)) (a .e) _ _ (gathered g) _ (k .far-at2 .ensures .1),
     )
 
 pub block-far-spec : {M : Type 1} → statement M

@@ -1,6 +1,7 @@
--- The X unpacked are the bits of the data (law far-held); R is read back.
+-- The X taken are the bits of the data (law far-held), and the place is after them; R is read back.
 use mir.Facts.{toZ-ofZ}
 use borrow.Author.Needs.{needs}
+use Rattle.bitreader.proofs.Places.{all-reached}
 use Rattle.checker.proofs.Far.{far-held}
 use Rattle.checker.proofs.points.far_at.Statement.{statement}
 use Rattle.checker.proofs.points.far_at.Tie as tie
@@ -9,9 +10,11 @@ returns : tie.Need-returns
 returns c =
     let u = c .before .before .before .before in
     let f = u .before .before .before .before in
-    let a = f .args in
-    far-held (a .s .now) (a .numbers .now) _ (a .held .now) (a .at) (a .n) (a .c) _ _ (a .e) (toZ-ofZ (f .fits .r))
-    (f .pre .0 .1) (f .pre .1 .1 .0) (u .unpack .ensures .1) _ (c .few-far .ensures)
+    let a = f .args in (
+      all-reached (a .at) (a .n) (a .c) _ (f .pre .0 .1) (f .pre .1 .1 .0) _ (u .take-all .ensures .0),
+      far-held (a .s .now) (a .numbers .now) _ (a .held .now) (a .at) (a .n) (a .c) _ _ (a .e) (toZ-ofZ (f .fits .r))
+          (f .pre .0 .1) (f .pre .1 .1 .0) (u .take-all .ensures .1) _ (c .few-far .ensures),
+    )
 
 pub far-at-spec : {M : Type 1} → statement M
 far-at-spec =

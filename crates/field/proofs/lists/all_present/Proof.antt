@@ -1,4 +1,4 @@
--- Every value unpacked, and every mark 1.
+-- Every value taken, and every mark 1.
 use borrow.Author.Needs.{needs}
 use Prim.Native.Nat.{_-_}
 use Rattle.field.proofs.Loops.{unpack-done}
@@ -7,9 +7,9 @@ use Rattle.field.proofs.lists.all_present.Tie as tie
 
 returns : tie.Need-returns
 returns c =
-    let unpack = c .before .before .before .before .before .before in
-    let start = unpack .before .before .before .before .before in (
-      unpack-done _ _ _ _ _ _ (start .pre .0) (start .pre .1) (unpack .unpack .ensures .1),
+    let taken = c .before .before .before .before .before .before in
+    let start = taken .before .before .before .before .before in (
+      unpack-done _ _ _ _ _ _ (start .pre .0) (start .pre .1) (taken .take-all .ensures .1),
       c .before .before .fill-all .ensures .1,
     )
 

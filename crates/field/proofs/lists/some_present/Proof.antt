@@ -1,4 +1,4 @@
--- The present values unpacked to the front and spread to their points, then the marks: the loops' promises in turn.
+-- The present values taken to the front and spread to their points, then the marks: the loops' promises in turn.
 use borrow.Author.Needs.{needs}
 use Prim.Native.Nat.{_-_}
 use Rattle.field.proofs.Loops.{some-values, some-marks}
@@ -8,10 +8,10 @@ use Rattle.field.proofs.lists.some_present.Tie as tie
 returns : tie.Need-returns
 returns c =
     let spread = c .before .before .before .before .before .before in
-    let unpack = spread .before .before .before .before in
-    let start = unpack .before .before .before .before .before .before in
+    let taken = spread .before .before .before .before in
+    let start = taken .before .before .before .before .before .before in
     let p = start .pre in (
-      some-values _ _ _ _ _ _ _ _ _ (p .0) (p .1 .0) (p .1 .1 .1) (unpack .unpack .ensures .1)
+      some-values _ _ _ _ _ _ _ _ _ (p .0) (p .1 .0) (p .1 .1 .1) (taken .take-all .ensures .1)
           (spread .spread .ensures),
       some-marks _ _ _ _ (c .before .before .fill .ensures .1),
     )

@@ -14,18 +14,11 @@ unpack-8-requires c κs =
     let h = whole-inside (a .at) (a .n) 8 (t .if2 .taken) (a .m) (length (a .s .now)) (t .before .if1 .left) in
     (omega arith, omega arith)
 
-unpack-12-requires : tie.Need-unpack-12-requires
-unpack-12-requires c κs =
-    let t = c .before in
-    let a = t .before .before .before .before .before .args in
-    let h = whole-inside (a .at) (a .n) 12 (t .if3 .taken) (a .m) (length (a .s .now)) (t .before .before .if1 .left) in
-    (omega arith, omega arith)
-
 unpack-16-requires : tie.Need-unpack-16-requires
 unpack-16-requires c κs =
     let t = c .before in
-    let a = t .before .before .before .before .before .before .args in
-    let h = whole-inside (a .at) (a .n) 16 (t .if4 .taken) (a .m) (length (a .s .now)) (t .before .before .before .if1 .left) in
+    let a = t .before .before .before .before .before .args in
+    let h = whole-inside (a .at) (a .n) 16 (t .if3 .taken) (a .m) (length (a .s .now)) (t .before .before .if1 .left) in
     (omega arith, omega arith)
 
 returns-2 : tie.Need-returns-2
@@ -40,16 +33,8 @@ returns-3 : tie.Need-returns-3
 returns-3 c =
     let t = c .before .before .before .before in
     let a = t .before .before .before .before .before .args in
-    read-at (a .s .now) (drop (a .m) (a .out .now)) _ (a .at) (a .n) 12 (a .m)
-    (whole-start (a .at) (a .n) 12 (t .if3 .taken)) (whole-width (a .at) (a .n) 12 (t .if3 .taken))
-    (c .before .before .unpack-12 .ensures)
-
-returns-4 : tie.Need-returns-4
-returns-4 c =
-    let t = c .before .before .before .before in
-    let a = t .before .before .before .before .before .before .args in
     read-at (a .s .now) (drop (a .m) (a .out .now)) _ (a .at) (a .n) 16 (a .m)
-    (whole-start (a .at) (a .n) 16 (t .if4 .taken)) (whole-width (a .at) (a .n) 16 (t .if4 .taken))
+    (whole-start (a .at) (a .n) 16 (t .if3 .taken)) (whole-width (a .at) (a .n) 16 (t .if3 .taken))
     (c .before .before .unpack-16 .ensures)
 
 pub unpack-all-spec : {M : Type 1} → statement M
@@ -61,7 +46,6 @@ unpack-all-spec =
     (λ c. search needs)
     (λ c κs. search needs)
     unpack-8-requires
-    unpack-12-requires
     unpack-16-requires
     (λ c κs. search needs)
     (λ c. search needs)
@@ -70,7 +54,5 @@ unpack-all-spec =
     returns-2
     (λ c. search needs)
     returns-3
-    (λ c. search needs)
-    returns-4
     (λ c. search needs)
     (λ c. search needs))
