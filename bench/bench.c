@@ -1,11 +1,8 @@
 /* Times the codec through its C face, its two bare loops, and plain C, and where BESIDE is defined another tree's codec and loops too: bench [ROUNDS [N..]].
  * Every answer is compared before it is timed. */
-#define _POSIX_C_SOURCE 199309L
-#include <stdio.h>
-#include <stdlib.h>
-#include <string.h>
-#include <time.h>
+#include "timing.h"
 
+#include "made.h"
 #include "plain.h"
 #include "sides.h"
 
@@ -15,15 +12,7 @@ static uint32_t values[MOST], back[MOST], held[MOST];
 static uint8_t marks[MOST], marks_back[MOST], bitmap[MOST / 8];
 static int32_t numbers[MOST];
 static uint8_t message[MESSAGE], other[MESSAGE], data[MESSAGE];
-static uint8_t pds[28];
 static int rounds = 60;
-
-static double now(void)
-{
-    struct timespec t;
-    clock_gettime(CLOCK_MONOTONIC, &t);
-    return (double)t.tv_sec * 1e9 + (double)t.tv_nsec;
-}
 
 /* the best times of a row, a point: 0 where nothing was timed */
 static double codec[SIDES], bare[SIDES], plain, slow;
@@ -36,51 +25,11 @@ static int fresh(void)
     return 0;
 }
 
-/* As many calls as have 65,536 points together, so that a step of the clock does not count. */
-#define TIME(best, statement)                                              \
-    do {                                                                   \
-        double took_ = now();                                              \
-        for (size_t call_ = 0; call_ < MOST / points; call_++)             \
-            statement;                                                     \
-        took_ = (now() - took_) / MOST;                                    \
-        best = best == 0 || took_ < best ? took_ : best;                   \
-    } while (0)
+/* As many calls as have 65,536 points together, and the time of a point. */
+#define TIME(best, statement) TIMED(best, MOST / points, MOST, statement)
 
-/* A round takes all of a row in turn, so that a slow phase of the machine hits all alike; no side is always the first. */
+/* A round takes all of a row in turn, so that a slow phase of the machine hits all alike. */
 #define ROUNDS for (int round = fresh(); round < rounds; round++)
-#define EACH_SIDE for (int k = 0, s = round % SIDES; k < SIDES; k++, s = (s + 1) % SIDES)
-
-static void must(int good, const char *what)
-{
-    if (!good) {
-        printf("bench: %s is not as it must be\n", what);
-        exit(1);
-    }
-}
-
-static uint32_t state = 1;
-static uint32_t some(void)
-{
-    state ^= state << 13;
-    state ^= state >> 17;
-    state ^= state << 5;
-    return state;
-}
-
-static Grib1Form form_of(uint32_t bitmap_kind, unsigned n, uint16_t ni, uint16_t nj)
-{
-    Grib1Form f;
-    memset(&f, 0, sizeof f);
-    f.given = 1;
-    f.bitmap = bitmap_kind;
-    f.grid.la1 = 60000;
-    f.grid.la2 = -60000;
-    f.grid.lo2 = 90000;
-    f.grid.ni = ni;
-    f.grid.nj = nj;
-    f.bits = (uint8_t)n;
-    return f;
-}
 
 static void ratio(double a, double b)
 {
@@ -143,7 +92,7 @@ static void one(unsigned n, uint16_t ni, uint16_t nj, int every)
     const uint8_t *x; /* the values' octets */
 
     /* every point present */
-    pds[7] = 128;
+    pds[PARTS] = WITH_GDS;
     for (size_t i = 0; i < points; i++) {
         values[i] = some() & mask;
         marks[i] = 1;
@@ -226,7 +175,7 @@ static void one(unsigned n, uint16_t ni, uint16_t nj, int every)
     }
 
     /* half the points absent */
-    pds[7] = 128 + 64;
+    pds[PARTS] = WITH_GDS + WITH_BMS;
     memset(bitmap, 0, sizeof bitmap);
     for (size_t i = 0; i < points; i++) {
         marks[i] = some() >> 9 & 1;
@@ -275,11 +224,7 @@ int main(int count, char **words)
 {
     if (count > 1)
         rounds = atoi(words[1]);
-    pds[2] = 28;
-    pds[12] = 1;
-    pds[13] = 1;
-    pds[14] = 1;
-    pds[24] = 21;
+    make_pds();
     printf("| what                   |  N | points | codec  | C      | ratio | bare   | ratio |%s\n", SIDES > 1 ? " before | ratio | bare before | ratio |" : "");
     printf("|---|---|---|---|---|---|---|---|%s\n", SIDES > 1 ? "---|---|---|---|" : "");
     for (unsigned n = 1; count <= 2 && n <= WIDEST; n++)

@@ -1,9 +1,7 @@
 /* One call of the codec, of plain C or of a bare loop on 4,096 points, chosen by its number: count N WHAT, and 100 more where another tree's is meant (BESIDE).
  * What was needed for it is done whatever WHAT is, so that the instructions of WHAT are those of this program less those of WHAT 0. WHAT 16 makes every call and
  * compares every answer. */
-#include <stdio.h>
-#include <string.h>
-
+#include "made.h"
 #include "plain.h"
 #include "sides.h"
 
@@ -12,32 +10,12 @@ enum { SQUARE = 64, POINTS = SQUARE * SQUARE, MESSAGE = 65536, START = 8 + 28 + 
 static uint32_t values[POINTS], gaps[POINTS], back[POINTS], held[POINTS];
 static uint8_t marks[POINTS], half[POINTS], marks_back[POINTS];
 static int32_t numbers[POINTS];
-static uint8_t message[MESSAGE], sparse[MESSAGE], other[MESSAGE], data[MESSAGE], pds[28];
+static uint8_t message[MESSAGE], sparse[MESSAGE], other[MESSAGE], data[MESSAGE];
 
-static uint32_t state = 1;
-static uint32_t some(void)
+/* the answer is right; then what a call may have filled is spoilt, so that the next to be compared must fill it itself */
+static void compared(int good, const char *what)
 {
-    state ^= state << 13;
-    state ^= state >> 17;
-    state ^= state << 5;
-    return state;
-}
-
-static unsigned decimal(const char *s)
-{
-    unsigned n = 0;
-    while (*s != 0)
-        n = n * 10 + (unsigned)(*s++ - '0');
-    return n;
-}
-
-static int wrong;
-static void must(int good, const char *what)
-{
-    if (!good) {
-        printf("count: %s is not as it must be\n", what);
-        wrong = 1;
-    }
+    must(good, what);
     memset(back, 1, sizeof back);
     memset(marks_back, 2, sizeof marks_back);
     memset(data, 1, sizeof data);
@@ -52,25 +30,16 @@ int main(int argc, char **argv)
 {
     if (argc != 3)
         return 2;
-    unsigned n = decimal(argv[1]), what = decimal(argv[2]) % 100, which = decimal(argv[2]) / 100;
+    unsigned n = (unsigned)atoi(argv[1]), what = (unsigned)atoi(argv[2]) % 100, which = (unsigned)atoi(argv[2]) / 100;
     if (n < 1 || n > 24 || which >= SIDES)
         return 2;
     const Side *side = &sides[which];
     uint8_t bits = (uint8_t)n;
     uint32_t mask = (1u << n) - 1, most = mask < 16777214 ? mask : 16777214;
     int32_t least = n == 24 ? -8388607 : -1000;
-    Grib1Form form = {.given = 1, .bitmap = GRIB1_WITHOUT, .bits = bits};
-    form.grid.la1 = 60000;
-    form.grid.la2 = -60000;
-    form.grid.lo2 = 90000;
-    form.grid.ni = SQUARE;
-    form.grid.nj = SQUARE;
-    pds[2] = 28;
-    pds[12] = 1;
-    pds[13] = 1;
-    pds[14] = 1;
-    pds[24] = 21;
-    pds[7] = 128;
+    Grib1Form form = form_of(GRIB1_WITHOUT, n, SQUARE, SQUARE), carried = form_of(GRIB1_CARRIED, n, SQUARE, SQUARE);
+    make_pds();
+    pds[PARTS] = WITH_GDS;
     for (size_t i = 0; i < POINTS; i++) {
         values[i] = some() & mask;
         marks[i] = 1;
@@ -81,9 +50,7 @@ int main(int argc, char **argv)
     numbers[0] = least;
     Grib1Written whole = grib1_write(pds, sizeof pds, form, 0, 0, 0, pds, 0, values, POINTS, marks, POINTS, message, MESSAGE);
     Grib1Written packed = grib1_pack(pds, sizeof pds, form, 0, pds, 0, numbers, POINTS, marks, POINTS, 0, other, MESSAGE);
-    Grib1Form carried = form;
-    carried.bitmap = GRIB1_CARRIED;
-    pds[7] = 192;
+    pds[PARTS] = WITH_GDS + WITH_BMS;
     Grib1Written parted = grib1_write(pds, sizeof pds, carried, 0, 0, 0, pds, 0, gaps, POINTS, half, POINTS, sparse, MESSAGE);
     if (whole.reply || packed.reply || parted.reply)
         return 3;
@@ -91,48 +58,48 @@ int main(int argc, char **argv)
     const uint8_t *gathered = sparse + h.bds.start + 11;
     if (what == 16) {
         plain_fetch(message + START, n, back, POINTS);
-        must(memcmp(back, values, sizeof values) == 0, "plain C's reading");
+        compared(memcmp(back, values, sizeof values) == 0, "plain C's reading");
         plain_accumulate(values, n, data, POINTS);
-        must(same(data, message + START, POINTS * n), "plain C's writing");
-        must(plain_check(other + START, n, numbers, POINTS, least, 0), "plain C's check");
+        compared(same(data, message + START, POINTS * n), "plain C's writing");
+        compared(plain_check(other + START, n, numbers, POINTS, least, 0), "plain C's check");
         plain_pack(numbers, n, data, POINTS);
-        must(same(data, other + START, POINTS * n), "plain C's packing");
+        compared(same(data, other + START, POINTS * n), "plain C's packing");
         plain_two_stage(gathered, n, sparse + h.bms.start + 6, held, back, marks_back, POINTS);
-        must(memcmp(back, gaps, sizeof gaps) == 0 && memcmp(marks_back, half, sizeof half) == 0, "plain C's reading in two stages");
+        compared(memcmp(back, gaps, sizeof gaps) == 0 && memcmp(marks_back, half, sizeof half) == 0, "plain C's reading in two stages");
         plain_gather(gaps, half, n, data, POINTS);
-        must(same(data, gathered, h.present * n), "plain C's writing of what is present");
+        compared(same(data, gathered, h.present * n), "plain C's writing of what is present");
         for (side = sides; side < sides + SIDES; side++) {
             Grib1Header r = side->header(message, whole.len, 0, pds, 0);
-            must(r.reply == 0 && r.points == POINTS && r.present == POINTS && r.bds.start + 11 == START && r.bits == n, "a header");
+            compared(r.reply == 0 && r.points == POINTS && r.present == POINTS && r.bds.start + 11 == START && r.bits == n, "a header");
             r = side->read(message, whole.len, 0, pds, 0, back, POINTS, marks_back, POINTS);
-            must(r.reply == 0 && memcmp(back, values, sizeof values) == 0 && memcmp(marks_back, marks, sizeof marks) == 0, "a message read");
+            compared(r.reply == 0 && memcmp(back, values, sizeof values) == 0 && memcmp(marks_back, marks, sizeof marks) == 0, "a message read");
             r = side->read(sparse, parted.len, 0, pds, 0, back, POINTS, marks_back, POINTS);
-            must(r.reply == 0 && memcmp(back, gaps, sizeof gaps) == 0 && memcmp(marks_back, half, sizeof half) == 0, "a message with a bitmap read");
-            must(side->bare_unpack(message, whole.len, START * 8, bits, back, POINTS, POINTS) && memcmp(back, values, sizeof values) == 0, "a bare loop's reading");
-            must(side->bare_pack(values, POINTS, bits, data, MESSAGE) && same(data, message + START, POINTS * n), "a bare loop's writing");
-            must(side->check(other, packed.len, 0, pds, 0, numbers, POINTS, marks, POINTS, 0).reply == 0, "a check");
+            compared(r.reply == 0 && memcmp(back, gaps, sizeof gaps) == 0 && memcmp(marks_back, half, sizeof half) == 0, "a message with a bitmap read");
+            compared(side->bare_unpack(message, whole.len, START * 8, bits, back, POINTS, POINTS) && memcmp(back, values, sizeof values) == 0, "a bare loop's reading");
+            compared(side->bare_pack(values, POINTS, bits, data, MESSAGE) && same(data, message + START, POINTS * n), "a bare loop's writing");
+            compared(side->check(other, packed.len, 0, pds, 0, numbers, POINTS, marks, POINTS, 0).reply == 0, "a check");
             Grib1Written w = side->write(pds, sizeof pds, carried, 0, 0, 0, pds, 0, gaps, POINTS, half, POINTS, data, MESSAGE);
-            must(w.reply == 0 && w.len == parted.len && same(data, sparse, w.len * 8), "a message with a bitmap written");
-            pds[7] = 128;
+            compared(w.reply == 0 && w.len == parted.len && same(data, sparse, w.len * 8), "a message with a bitmap written");
+            pds[PARTS] = WITH_GDS;
             w = side->write(pds, sizeof pds, form, 0, 0, 0, pds, 0, values, POINTS, marks, POINTS, data, MESSAGE);
-            must(w.reply == 0 && w.len == whole.len && same(data, message, w.len * 8), "a message written");
+            compared(w.reply == 0 && w.len == whole.len && same(data, message, w.len * 8), "a message written");
             w = side->pack(pds, sizeof pds, form, 0, pds, 0, numbers, POINTS, marks, POINTS, 0, data, MESSAGE);
-            must(w.reply == 0 && w.len == packed.len && same(data, other, w.len * 8), "a message packed");
-            pds[7] = 192;
+            compared(w.reply == 0 && w.len == packed.len && same(data, other, w.len * 8), "a message packed");
+            pds[PARTS] = WITH_GDS + WITH_BMS;
         }
-        return wrong;
+        return 0;
     }
     switch (what) {
     case 0: return 0;
     case 1: return side->read(message, whole.len, 0, pds, 0, back, POINTS, marks_back, POINTS).reply != 0;
     case 2: plain_fetch(message + START, n, back, POINTS); return 0;
     case 3: return !side->bare_unpack(message, whole.len, START * 8, bits, back, POINTS, POINTS);
-    case 4: pds[7] = 128; return side->write(pds, sizeof pds, form, 0, 0, 0, pds, 0, values, POINTS, marks, POINTS, data, MESSAGE).reply != 0;
+    case 4: pds[PARTS] = WITH_GDS; return side->write(pds, sizeof pds, form, 0, 0, 0, pds, 0, values, POINTS, marks, POINTS, data, MESSAGE).reply != 0;
     case 5: plain_accumulate(values, n, data, POINTS); return 0;
     case 6: return !side->bare_pack(values, POINTS, bits, data, MESSAGE);
     case 7: return side->check(other, packed.len, 0, pds, 0, numbers, POINTS, marks, POINTS, 0).reply != 0;
     case 8: return !plain_check(other + START, n, numbers, POINTS, least, 0);
-    case 9: pds[7] = 128; return side->pack(pds, sizeof pds, form, 0, pds, 0, numbers, POINTS, marks, POINTS, 0, data, MESSAGE).reply != 0;
+    case 9: pds[PARTS] = WITH_GDS; return side->pack(pds, sizeof pds, form, 0, pds, 0, numbers, POINTS, marks, POINTS, 0, data, MESSAGE).reply != 0;
     case 10: plain_pack(numbers, n, data, POINTS); return 0;
     case 11: return side->read(sparse, parted.len, 0, pds, 0, back, POINTS, marks_back, POINTS).reply != 0;
     case 12: plain_two_stage(gathered, n, sparse + h.bms.start + 6, held, back, marks_back, POINTS); return 0;

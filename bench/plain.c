@@ -1,5 +1,7 @@
 #include "plain.h"
 
+#include <string.h>
+
 /* the value at bit place p, out of four octets */
 static uint32_t fetched(const uint8_t *data, size_t p, unsigned n)
 {
@@ -118,4 +120,51 @@ void plain_pack(const int32_t *numbers, unsigned n, uint8_t *data, size_t points
     }
     if (have > 0)
         data[k] = (uint8_t)(all << (8 - have));
+}
+
+/* the eight octets from q on as the machine reads them */
+static uint64_t word(const uint8_t *q)
+{
+    uint64_t w;
+    memcpy(&w, q, 8);
+    return w;
+}
+
+static uint32_t ones(uint64_t w)
+{
+    return (uint32_t)__builtin_popcountll(w);
+}
+
+static uint32_t ones_256(const uint8_t *q)
+{
+    return ones(word(q)) + ones(word(q + 8)) + ones(word(q + 16)) + ones(word(q + 24));
+}
+
+void plain_index(const uint8_t *bitmap, uint32_t *index, size_t points)
+{
+    uint32_t before = 0;
+    index[0] = 0;
+    for (size_t g = 1; g < (points + 255) / 256; g++) {
+        before += bitmap == NULL ? 256 : ones_256(bitmap + (g - 1) * 32);
+        index[g] = before;
+    }
+}
+
+int plain_cursor(const uint8_t *data, unsigned n, const uint8_t *bitmap, const uint32_t *index, size_t i,
+    uint32_t *value)
+{
+    size_t k = i;
+    *value = 0;
+    if (bitmap != NULL) {
+        const uint8_t *q = bitmap + i / 256 * 32, *last = bitmap + i / 64 * 8;
+        /* first point leftmost: the place's own bit is the lowest that stays */
+        uint64_t w = __builtin_bswap64(word(last)) >> (63 - i % 64);
+        if (w % 2 == 0)
+            return 0;
+        k = index[i / 256] + ones(w >> 1);
+        for (; q < last; q += 8)
+            k += ones(word(q));
+    }
+    *value = fetched(data, k * n, n);
+    return 1;
 }

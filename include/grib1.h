@@ -5,12 +5,14 @@
  * crates/grib1/src/lib.rt, as an equation that is proved. The caller owes only this:
  *   - a pointer and its length, in elements, are memory that the caller lends for the call; no pointer is NULL, also
  *     where its length is 0;
- *   - a buffer that is written (values and marks of grib1_read, out) overlaps no other buffer of the call.
- * A buffer that is not written is only read. A reply other than 0 changes no buffer and comes with every other field 0,
- * but for section and place, which 20 to 23 alone tell. Padding between fields has no set content.
+ *   - a buffer that is written (values and marks of grib1_read, index of grib1_index, out) overlaps no other buffer of
+ *     the call.
+ * A buffer that is not written is only read, as index of grib1_cursor is. A reply other than 0 changes no buffer and
+ * comes with every other field 0, but for section and place, which 20 to 23 alone tell. Padding between fields has no
+ * set content.
  *
- * Thread-safe: no globals, no heap, nothing is kept between calls. How much stack a call takes is told below, by
- * function.
+ * Thread-safe: no globals, no heap, nothing is kept between calls; an index is the caller's to keep. How much stack a
+ * call takes is told below, by function.
  *
  * message        one GRIB message, whole: 'GRIB' to '7777'
  * store_number   the number of the stored bitmap that is lent with the message, 0 where none is
@@ -31,9 +33,9 @@ extern "C" {
 /* The version of what is declared here. While its first number is 0, a new second number may change a name, a field or
  * a function, and a new third one changes none. */
 #define GRIB1_VERSION_MAJOR 0
-#define GRIB1_VERSION_MINOR 5
+#define GRIB1_VERSION_MINOR 6
 #define GRIB1_VERSION_PATCH 0
-#define GRIB1_VERSION "0.5.0"
+#define GRIB1_VERSION "0.6.0"
 
 /* The rules' bounds, and what to lend. */
 #define GRIB1_MESSAGE_LEAST 8          /* octets of a message */
@@ -43,6 +45,8 @@ extern "C" {
 #define GRIB1_PDS_MOST 1024
 #define GRIB1_SIDE_MOST 65534          /* ni and nj of a rectangle */
 #define GRIB1_POINTS_MOST 65536        /* points of a grid: values and marks of so many hold any field */
+#define GRIB1_GROUP 256                /* points of a group of an index; the last group has those that are left */
+#define GRIB1_INDEX_MOST 256           /* groups of a grid: an index of so many entries holds any message's */
 #define GRIB1_LATITUDE_MOST 90000      /* thousandths of a degree, in magnitude */
 #define GRIB1_LONGITUDE_MOST 360000
 #define GRIB1_DISTANCE_MOST 16777215   /* dx and dy, metres */
@@ -71,9 +75,11 @@ extern "C" {
 #define GRIB1_STACK_BITMAP 2048
 #define GRIB1_STACK_DISPLAY 2048
 #define GRIB1_STACK_PLACE 256
-#define GRIB1_STACK_POINT 256
+#define GRIB1_STACK_POINT 512
 #define GRIB1_STACK_ROW 256
 #define GRIB1_STACK_DATA_NUMBER 2048
+#define GRIB1_STACK_INDEX 2304
+#define GRIB1_STACK_CURSOR 2304
 #define GRIB1_STACK_LENGTH 1792
 #define GRIB1_STACK_WRITE 3840
 #define GRIB1_STACK_CHECK 4352
@@ -83,7 +89,8 @@ extern "C" {
  * before 6. They go section by section from the front: PDS, GDS and BMS where PDS octet 8 announces them, BDS. In a
  * section 22 comes first where the three octets of its length pass the end section's start, then 20, 21, and 22 where
  * the section does; 23 comes after the BDS. grib1_check gives those of grib1_header, then 18, 15, 16, 17, and
- * grib1_pack gives 5, 18, 15, 11, 19, then the rest of grib1_write's. */
+ * grib1_pack gives 5, 18, 15, 11, 19, then the rest of grib1_write's. grib1_index gives those of grib1_header, then 14,
+ * and grib1_cursor those of grib1_header, then 24, then 25. */
 enum grib1_reply {
     GRIB1_ACCEPTED = 0,
     GRIB1_SIZE = 1,            /* slice below 8 or above 262,144 octets */
@@ -120,7 +127,10 @@ enum grib1_reply {
     GRIB1_LENGTH_BOUNDS = 21,  /* reading: a section length is under its least (PDS 28, GDS 32, BMS 6, BDS 12), or PDS
                                   over 1,024 */
     GRIB1_LENGTH_PASSES = 22,  /* reading: a section, or the three octets of its length, pass the end section's start */
-    GRIB1_LEFT_OVER = 23       /* reading: octets between the BDS's end and the end section */
+    GRIB1_LEFT_OVER = 23,      /* reading: octets between the BDS's end and the end section */
+    GRIB1_OFF_CHART = 24,      /* cursor: a place outside the chart */
+    GRIB1_INDEX = 25           /* cursor: the index has fewer entries than groups, or the group's entry plus the ones in
+                                  that group isn't the next entry (in the last group, m) or is above m */
 };
 
 /* The sections of a message, as grib1_section takes them and as 20 to 23 tell them. */
@@ -156,9 +166,9 @@ enum grib1_rows {
     GRIB1_ROWS_FROM_POLE = 2       /* the same from the pole on, 2 to 73: grids 41 to 44 */
 };
 
-/* What is said of a grid point. */
+/* What is said of a grid point, and of a place under the cursor. */
 enum grib1_data_kind {
-    GRIB1_OUTSIDE = 0,         /* the grid has no such point, or the message is refused */
+    GRIB1_OUTSIDE = 0,         /* the grid has no such point, or the message, the place or the index is refused */
     GRIB1_PRESENT = 1,
     GRIB1_ABSENT = 2
 };
@@ -283,6 +293,25 @@ typedef struct {
     uint32_t data_number;      /* where it is present: how many present points stand before it */
 } Grib1Data;
 
+/* What filling an index answers. */
+typedef struct {
+    uint32_t reply;            /* enum grib1_reply: 0, 1 to 4, 6 to 12, 14, 20 to 23 */
+    uint32_t section;          /* as in a header */
+    uint32_t place;            /* as in a header */
+    uint32_t entries;          /* how many entries were filled, one for each group: (n + 255) / 256, at most
+                                  GRIB1_INDEX_MOST */
+} Grib1Indexed;
+
+/* What a place of the chart has under the cursor. */
+typedef struct {
+    uint32_t reply;            /* enum grib1_reply: 0, 1 to 4, 6 to 12, 20 to 25 */
+    uint32_t section;          /* as in a header */
+    uint32_t place;            /* as in a header: of the message, not of the chart */
+    uint32_t kind;             /* enum grib1_data_kind: GRIB1_PRESENT or GRIB1_ABSENT; GRIB1_OUTSIDE where it is
+                                  refused */
+    uint32_t value;            /* X where it is present, else 0 */
+} Grib1Cursor;
+
 /* What writing, and how much will be written, answer. */
 typedef struct {
     uint32_t reply;            /* enum grib1_reply: 0, 5 to 7, 9 to 11, 13, 14, and 15, 18, 19 of grib1_pack */
@@ -346,6 +375,36 @@ uint32_t grib1_row(Grib1Grid grid, uint32_t row);
 /* The data number of a grid point of a message. Reads message and store; takes a whole header's time. */
 Grib1Data grib1_data_number(const uint8_t *message, size_t message_len, uint16_t store_number, const uint8_t *store,
     size_t store_len, uint32_t point);
+
+/* Fills the index of a message, by which grib1_cursor finds one value without unpacking the others: entry g is how many
+ * present points, of all n in message order, stand before point g x GRIB1_GROUP, the first of group g. With no bitmap
+ * every point is present.
+ *
+ * Fill it once, when the message is taken, and keep it beside the message from call to call: it is the caller's memory,
+ * and several threads may read it. It may be used as long as the message, the stored bitmap and its number are the
+ * same; when one of them changes, fill it anew.
+ *
+ * Reads message and store; writes the first `entries` of index and leaves later ones. GRIB1_INDEX_MOST entries hold any
+ * message's index, and (points + 255) / 256 this one's: 14 where it has fewer. Takes a header's time, and the ones of a
+ * bitmap are counted once more. */
+Grib1Indexed grib1_index(const uint8_t *message, size_t message_len, uint16_t store_number, const uint8_t *store,
+    size_t store_len, uint32_t *index, size_t index_len);
+
+/* The value or absence at one place of a message's chart, by an index that was filled for it: what grib1_read puts at
+ * the point that grib1_point says for row and column. On a thinned octant a column is a position in its own row. Reads
+ * message, store and index. Each call judges the whole message, as grib1_header does, and then takes the octets of one
+ * group of a bitmap and one value: it takes a header's time and unpacks nothing else.
+ *
+ * 24 where the chart has no such place. 25 where the index does not fit, at an absent place too: it has fewer entries
+ * than the message has groups, or the entry of the place's group plus the ones in that group is not the next entry (in
+ * the last group m, how many points are present in all) or is above m. So 25 looks at how long the index is and at two
+ * entries at most; what stands in others, and after the last group, is not looked at.
+ *
+ * That an index is taken is no proof that it is this message's. One that was filled for another message may fit at a
+ * place: then the value is the one whose data number is the group's entry plus the ones before the place in that group,
+ * a value of this message, but perhaps of another point. Whether a place is absent never depends on the index. */
+Grib1Cursor grib1_cursor(const uint8_t *message, size_t message_len, uint16_t store_number, const uint8_t *store,
+    size_t store_len, const uint32_t *index, size_t index_len, uint32_t row, uint32_t column);
 
 /* How many octets the message of a PDS, a form and n marks takes, for a caller who lends no more than these: whatever
  * E, R and the values or source numbers are, a grib1_write or grib1_pack of the same parts that accepts them answers

@@ -1,7 +1,7 @@
 // The archive's functions by way of a program that is linked with it (tests/rust_face/driver.c) and that the file named
 // by GRIB1_DRIVER runs, one process for each call. Records and elements lie in memory alike on both sides: the fields
 // have C's places, low octet first, and no pointer crosses.
-use crate::records::{Checked, Data, Display, Form, Grid, Header, Part, Place, Point, Written};
+use crate::records::{Checked, Cursor, Data, Display, Form, Grid, Header, Indexed, Part, Place, Point, Written};
 use std::env;
 use std::io::Write;
 use std::mem::{size_of, size_of_val};
@@ -103,6 +103,17 @@ pub fn data_number(m: &[u8], number: u16, s: &[u8], point: u32) -> Data {
 
 pub fn check(m: &[u8], number: u16, s: &[u8], numbers: &[i32], marks: &[u8], d: i32) -> Checked {
     Call::about(6, m, number, s).list(numbers).list(marks).number(d as u32).record()
+}
+
+pub fn index(m: &[u8], number: u16, s: &[u8], index: &mut [u32]) -> Indexed {
+    let mut answer = Call::about(13, m, number, s).list(index).answer();
+    let indexed = answer.record();
+    answer.list(index);
+    indexed
+}
+
+pub fn cursor(m: &[u8], number: u16, s: &[u8], index: &[u32], row: u32, column: u32) -> Cursor {
+    Call::about(14, m, number, s).list(index).number(row).number(column).record()
 }
 
 pub fn place(grid: Grid, point: u32) -> Place {

@@ -2,6 +2,7 @@
 //! are lent by the caller, and parts are borrowed from them. Every octet string gets the one reply that the rules fix,
 //! and a refusal changes nothing that is lent. Grids are latitude/longitude (thinned octants too), Mercator, Lambert,
 //! Gaussian and polar stereographic ones: `Projection` has what each kind has of its own. It needs no std.
+//! `Message::read` unpacks a field, and `Message::cursor` gives what one place of its chart has, without that.
 //!
 //! ```
 //! # let octets: &[u8] = &[
@@ -206,6 +207,58 @@ impl<'a> Message<'a> {
         Refusal::unless_taken(h.reply, h.section, h.place)?;
         let n = h.points as usize;
         Ok(Field { header: self.header, values: &values[..n], marks: &marks[..n] })
+    }
+
+    /// Fills the index of this message at the front of the lent list, and hands that front out: for each group of
+    /// `limits::GROUP` grid points, how many present points stand before it. By it `cursor` finds one value without
+    /// unpacking the others.
+    ///
+    /// Fill it once, when the message is taken, and keep it beside the message: it holds for as long as the octets of
+    /// the message and of the stored bitmap, and that one's number, are the same, also for another `Message` of them.
+    /// `limits::INDEX_MOST` entries hold any message's index, and the header's `points` over `limits::GROUP`, rounded
+    /// up, this one's. Reply 14 where the list is shorter; it is then as it was. Later entries stay. Takes a header's
+    /// time.
+    pub fn index<'b>(&self, entries: &'b mut [u32]) -> Result<&'b [u32], Refusal> {
+        let i = face::index(self.octets, self.stored.number, self.stored.octets, entries);
+        Refusal::unless_taken(i.reply, i.section, i.place)?;
+        Ok(&entries[..i.entries as usize])
+    }
+
+    /// X at one place of the chart, or None where the point is absent: what `read` gives there, by an index that
+    /// `index` filled for this message, without unpacking the field. On a thinned octant the place's column is a
+    /// position in its own row. Judges the whole message each time, and so takes a header's time.
+    ///
+    /// Reply 24 where the chart has no such place. Reply 25 where the index does not fit, at an absent place too: it is
+    /// shorter than the message has groups, or the entry of the place's group plus the ones in that group is not the
+    /// next entry (in the last group the header's `present`) or is above `present`. Other entries are not looked at,
+    /// nor those after the last group.
+    ///
+    /// That an index is taken is no proof that it is this message's: one that was filled for another may fit at a
+    /// place, and then leads to a value of this message, but perhaps of another point.
+    ///
+    /// ```
+    /// # let octets: &[u8] = &[
+    /// #     0x47, 0x52, 0x49, 0x42, 0x00, 0x00, 0x5E, 0x01, 0x00, 0x00, 0x1C, 0x03, 0x07, 0x00, 0xFF, 0xC0,
+    /// #     0x0B, 0x64, 0x01, 0xF4, 0x62, 0x03, 0x0A, 0x06, 0x00, 0x01, 0x00, 0x00, 0x00, 0x00, 0x00, 0x00,
+    /// #     0x14, 0x00, 0x00, 0x01, 0x00, 0x00, 0x20, 0x00, 0xFF, 0x00, 0x00, 0x02, 0x00, 0x02, 0x00, 0xC3,
+    /// #     0x50, 0x80, 0x07, 0xD0, 0x80, 0x00, 0xC7, 0x38, 0x80, 0x03, 0xE8, 0x03, 0xE8, 0x03, 0xE8, 0x40,
+    /// #     0x00, 0x00, 0x00, 0x00, 0x00, 0x00, 0x08, 0x0C, 0x00, 0x00, 0xD0, 0x00, 0x00, 0x00, 0x0E, 0x0F,
+    /// #     0x00, 0x00, 0x43, 0x9C, 0x40, 0x00, 0x03, 0x0B, 0x80, 0x00, 0x37, 0x37, 0x37, 0x37,
+    /// # ];
+    /// use grib1::{limits, Message, Place, Stored};
+    /// let message = Message::new(octets, Stored::NONE)?;
+    /// let mut entries = [0; limits::INDEX_MOST];
+    /// let index = message.index(&mut entries)?;
+    /// // the cursor moves: an absent point, one with a value, and off the chart
+    /// assert_eq!(message.cursor(index, Place { row: 0, column: 0 })?, None);
+    /// assert_eq!(message.cursor(index, Place { row: 0, column: 1 })?, Some(7));
+    /// assert_eq!(message.cursor(index, Place { row: 0, column: 2 }).unwrap_err().reply, 24);
+    /// # Ok::<(), grib1::Refusal>(())
+    /// ```
+    pub fn cursor(&self, index: &[u32], place: Place) -> Result<Option<u32>, Refusal> {
+        let c = face::cursor(self.octets, self.stored.number, self.stored.octets, index, place.row, place.column);
+        Refusal::unless_taken(c.reply, c.section, c.place)?;
+        Ok((c.kind == 1).then_some(c.value))
     }
 
     /// Whether the message renders a source field, every present point within half a step: else replies 15 to 18.

@@ -17,6 +17,12 @@ pub const SIDE_MOST: u16 = 65534;
 /// Points of a grid: values and marks of so many hold any field.
 pub const POINTS_MOST: usize = 65536;
 
+/// Points of a group of an index; the last group has those that are left.
+pub const GROUP: usize = 256;
+
+/// Groups of a grid: an index of so many entries holds any message's.
+pub const INDEX_MOST: usize = 256;
+
 /// Thousandths of a degree, in magnitude.
 pub const LATITUDE_MOST: i32 = 90000;
 pub const LONGITUDE_MOST: i32 = 360000;

@@ -1,6 +1,6 @@
 // The archive's functions, each with its slices taken apart. A slice of Rust is what the archive asks for: a pointer
 // that is not null, to that many elements, and what is lent as `&mut` overlaps nothing else.
-use crate::records::{Checked, Data, Display, Form, Grid, Header, Part, Place, Point, Written};
+use crate::records::{Checked, Cursor, Data, Display, Form, Grid, Header, Indexed, Part, Place, Point, Written};
 
 extern "C" {
     fn grib1_header(m: *const u8, m_len: usize, number: u16, s: *const u8, s_len: usize) -> Header;
@@ -14,6 +14,10 @@ extern "C" {
     fn grib1_point(grid: Grid, row: u32, column: u32) -> Point;
     fn grib1_row(grid: Grid, row: u32) -> u32;
     fn grib1_data_number(m: *const u8, m_len: usize, number: u16, s: *const u8, s_len: usize, point: u32) -> Data;
+    fn grib1_index(m: *const u8, m_len: usize, number: u16, s: *const u8, s_len: usize, index: *mut u32, index_len: usize) -> Indexed;
+    fn grib1_cursor(
+        m: *const u8, m_len: usize, number: u16, s: *const u8, s_len: usize, index: *const u32, index_len: usize, row: u32, column: u32,
+    ) -> Cursor;
     fn grib1_length(pds: *const u8, pds_len: usize, form: Form, number: u16, s: *const u8, s_len: usize, marks: *const u8, marks_len: usize) -> Written;
     fn grib1_write(
         pds: *const u8, pds_len: usize, form: Form, e: i32, r: u32, number: u16, s: *const u8, s_len: usize, values: *const u32, values_len: usize,
@@ -63,6 +67,14 @@ pub fn row(grid: Grid, row: u32) -> u32 {
 
 pub fn data_number(m: &[u8], number: u16, s: &[u8], point: u32) -> Data {
     unsafe { grib1_data_number(m.as_ptr(), m.len(), number, s.as_ptr(), s.len(), point) }
+}
+
+pub fn index(m: &[u8], number: u16, s: &[u8], index: &mut [u32]) -> Indexed {
+    unsafe { grib1_index(m.as_ptr(), m.len(), number, s.as_ptr(), s.len(), index.as_mut_ptr(), index.len()) }
+}
+
+pub fn cursor(m: &[u8], number: u16, s: &[u8], index: &[u32], row: u32, column: u32) -> Cursor {
+    unsafe { grib1_cursor(m.as_ptr(), m.len(), number, s.as_ptr(), s.len(), index.as_ptr(), index.len(), row, column) }
 }
 
 pub fn length(pds: &[u8], form: Form, number: u16, s: &[u8], marks: &[u8]) -> Written {

@@ -102,6 +102,25 @@ pub struct Data {
 
 #[derive(Clone, Copy)]
 #[repr(C)]
+pub struct Indexed {
+    pub reply: u32,
+    pub section: u32,
+    pub place: u32,
+    pub entries: u32,
+}
+
+#[derive(Clone, Copy)]
+#[repr(C)]
+pub struct Cursor {
+    pub reply: u32,
+    pub section: u32,
+    pub place: u32,
+    pub kind: u32,
+    pub value: u32,
+}
+
+#[derive(Clone, Copy)]
+#[repr(C)]
 pub struct Written {
     pub reply: u32,
     pub len: u32,

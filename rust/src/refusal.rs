@@ -8,7 +8,7 @@ use core::fmt;
 #[derive(Clone, Copy, Debug, PartialEq, Eq)]
 #[non_exhaustive]
 pub struct Refusal {
-    /// Its number, 1 to 23.
+    /// Its number, 1 to 25.
     pub reply: u32,
     /// Where a section's length went wrong: there exactly for 20 to 23, the reader's own.
     pub stop: Option<Stop>,
@@ -24,8 +24,8 @@ pub struct Stop {
     pub place: u32,
 }
 
-// What each number says, after document 01's table and document 02's R-1 to R-4.
-const WORDS: [&str; 24] = [
+// What each number says, after document 01's table and document 02's R-1 to R-4 and R-6.
+const WORDS: [&str; 26] = [
     "accepted",
     "slice below 8 or above 262,144 octets",
     "first four octets not 'GRIB'",
@@ -54,6 +54,9 @@ const WORDS: [&str; 24] = [
     "a section's length is under its least, or the PDS's over 1,024 octets",
     "a section passes the end section's start",
     "octets are left over between the data section and the end section",
+    "a place outside the chart",
+    "the index has fewer entries than groups, or the group's entry plus the ones in that group isn't the next entry (in \
+     the last group, m) or is above m",
 ];
 
 impl Refusal {

@@ -3,7 +3,7 @@
 #include <string.h>
 
 #define TEST "faces.c"
-#include "same.h"
+#include "by_index.h"
 #include "specimen.h"
 
 static const Grib1Grid specimen_grid = {
@@ -130,6 +130,34 @@ static void points(void)
     same(grib1_row(grid, GRIB1_MISSING), 0);
 }
 
+static void under_cursor(void)
+{
+    static const uint32_t kind[4] = {GRIB1_ABSENT, GRIB1_PRESENT, GRIB1_PRESENT, GRIB1_PRESENT};
+    static const uint32_t value[4] = {0, 7, 0, 2};
+    uint32_t index[3] = {9, 9, 9}, k;
+    Grib1Cursor u;
+
+    same_indexed(__LINE__, grib1_index(specimen, 94, 0, none, 0, index, 0), GRIB1_ROOM, 0, 0, 0);
+    unanswered(__LINE__, specimen, 93, 0, none, 0, GRIB1_TOTAL, 0, 0);
+    unanswered(__LINE__, specimen, 0, 0, none, 0, GRIB1_SIZE, 0, 0);
+    same(index[0], 9);
+    same_indexed(__LINE__, grib1_index(specimen, 94, 0, none, 0, index, 3), GRIB1_ACCEPTED, 0, 0, 1);
+    same(index[0], 0);
+    same(index[1], 9);
+    same(index[2], 9);
+    for (k = 0; k < 4; k++) {
+        u = grib1_cursor(specimen, 94, 0, none, 0, index, 1, k / 2, k % 2);
+        same_under(__LINE__, u, GRIB1_ACCEPTED, 0, 0, kind[k], value[k]);
+        u = grib1_cursor(specimen, 94, 0, none, 0, index, 0, k / 2, k % 2);
+        same_under(__LINE__, u, GRIB1_INDEX, 0, 0, GRIB1_OUTSIDE, 0);
+    }
+    u = grib1_cursor(specimen, 94, 0, none, 0, index, 1, 2, 0);
+    same_under(__LINE__, u, GRIB1_OFF_CHART, 0, 0, GRIB1_OUTSIDE, 0);
+    u = grib1_cursor(specimen, 94, 0, none, 0, index, 1, 0, 2);
+    same_under(__LINE__, u, GRIB1_OFF_CHART, 0, 0, GRIB1_OUTSIDE, 0);
+    as_read(__LINE__, specimen, 94, 0, none, 0, 1);
+}
+
 static void writing(void)
 {
     static const uint32_t values[4] = {0, 2, 0, 7};
@@ -222,6 +250,8 @@ static void writing(void)
     same_refusal(__LINE__, grib1_header(out, 92, 0, none, 0), GRIB1_BITMAP);
     same_refusal(__LINE__, grib1_header(out, 92, 6, store, 1), GRIB1_BITMAP);
     same(grib1_data_number(out, 92, 5, store, 1, 3).data_number, 2);
+    as_read(__LINE__, out, 92, 5, store, 1, 1);
+    unanswered(__LINE__, out, 92, 6, store, 1, GRIB1_BITMAP, 0, 0);
 }
 
 int main(void)
@@ -230,6 +260,7 @@ int main(void)
     reading();
     parts();
     points();
+    under_cursor();
     writing();
     return differ;
 }

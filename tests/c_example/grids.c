@@ -36,6 +36,7 @@ static void read_and_written(const Kind *k)
     same(grib1_data_number(message, len, 0, none, 0, 1).kind, GRIB1_ABSENT);
     same(grib1_data_number(message, len, 0, none, 0, 5).data_number, 3);
     same(grib1_data_number(message, len, 0, none, 0, 6).kind, GRIB1_OUTSIDE);
+    as_read(__LINE__, message, len, 0, none, 0, 1);
     same(grib1_check(message, len, 0, none, 0, field_numbers, POINTS, field_marks, POINTS, 1).reply, GRIB1_ACCEPTED);
     same(grib1_check(message, len, 0, none, 0, far, POINTS, field_marks, POINTS, 1).reply, GRIB1_OUT);
     writes(__LINE__, h.grid, k->gds, k->len);

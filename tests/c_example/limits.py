@@ -40,6 +40,9 @@ limits["WRITTEN_MOST"] = (
     + even(bounds["BDS_HEAD"] + bounds["POINTS_MOST"] * bounds["BITS_MOST"] // 8) + 4
 )
 limits["MISSING"] = 2**16 - 1
+# an index has an entry for each group of so many points
+limits["GROUP"] = limits.pop("GROUP_LONG")
+limits["INDEX_MOST"] = -(-bounds["POINTS_MOST"] // bounds["GROUP_LONG"])
 limits.setdefault("DISTANCE_MOST", 2**24 - 1)  # three octets without a sign
 for where, found in [("include/grib1.h", c), ("rust/src/limits.rs", rust)]:
     own = {name: value for name, value in found.items() if not name.startswith(("VERSION", "SCAN", "STACK"))}

@@ -9,7 +9,7 @@
 #include <string.h>
 
 #define TEST "octants.c"
-#include "same.h"
+#include "by_index.h"
 
 enum { POINTS = 3447, ROWS = 73, PDS = 28, GDS = 178, ROOM = 16384 };
 
@@ -212,6 +212,7 @@ static void reads(int number, const Grib1Form *f, uint32_t r, size_t len, uint32
     same(grib1_data_number(out, len, lent, store, lent_len, POINTS - 1).data_number, present - 1);
     same(grib1_data_number(out, len, lent, store, lent_len, 3).kind, marks[3] ? GRIB1_PRESENT : GRIB1_ABSENT);
     same(grib1_data_number(out, len, lent, store, lent_len, POINTS).kind, GRIB1_OUTSIDE);
+    as_read(__LINE__, out, len, lent, store, lent_len, 11);
     d = grib1_display(out, len, lent, store, lent_len);
     same_reply(__LINE__, d, GRIB1_ACCEPTED, 0, 0);
     same(d.reference, r == 0 ? 0 : -100);
@@ -391,6 +392,7 @@ static void said(int line, uint32_t start, uint32_t length, uint32_t reply, uint
     same_reply(line, d, reply, section, place);
     c = grib1_check(out, len, 0, none, 0, numbers, POINTS, marks, POINTS, -1);
     same_reply(line, c, reply, section, place);
+    unanswered(line, out, len, 0, none, 0, reply, section, place);
 }
 
 /* section lengths that went wrong about a GDS of 178 octets: it starts at 37, the BMS at 215, the BDS at 653, the end

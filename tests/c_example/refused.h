@@ -5,7 +5,7 @@
 
 #include <string.h>
 
-#include "same.h"
+#include "by_index.h"
 #include "specimen.h"
 
 static const int32_t numbers[4] = {2500, 2502, 77, 2507};
@@ -36,6 +36,7 @@ static void refused(int line, const uint8_t *message, size_t len, uint32_t reply
         same_part(line, grib1_section(message, len, 0, none, 0, k), 0, 0, 0);
     same_part(line, grib1_bitmap(message, len, 0, none, 0), 0, 0, 0);
     same_at(line, grib1_data_number(message, len, 0, none, 0, 0).kind, GRIB1_OUTSIDE);
+    unanswered(line, message, len, 0, none, 0, reply, section, place);
 }
 
 /* the form by which the specimen is written */

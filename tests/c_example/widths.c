@@ -1,11 +1,12 @@
 /* Values of every width, taken one after another: messages whose data are laid bit by bit here, of every N from 0 to 24
  * and of so many points that the values end at every place of a turn and about the end of a block, with every point
- * present and with a bitmap. Reading gives each X at its point; the check says yes, and 17 as soon as one present number
- * is a step off. A greater N is refused. Prints the lines of what differs, and ends with 1 where any does. */
+ * present and with a bitmap. Reading gives each X at its point, and so does the cursor; the check says yes, and 17 as
+ * soon as one present number is a step off. A greater N is refused. Prints the lines of what differs, and ends with 1
+ * where any does. */
 #include <string.h>
 
 #define TEST "widths.c"
-#include "same.h"
+#include "by_index.h"
 
 enum { MOST = 520, AFTER = 3, ROOM = 2048, PDS = 28, GDS = 32, LEAST = -8388606, GREATEST = 16777212 };
 
@@ -148,6 +149,8 @@ static void field(uint32_t bits, uint32_t points, uint32_t every)
         same(marks_read[i], 90);
     }
 
+    as_read(__LINE__, message, length, 0, none, 0, points / 64 + 1);
+
     same(checked(points), GRIB1_ACCEPTED);
     for (uint32_t i = 0; i < points; i++) {
         int32_t step = i % 2 == 0 ? 1 : -1;
@@ -170,6 +173,7 @@ static void too_wide(uint32_t bits)
     same_refusal(__LINE__, grib1_read(message, length, 0, none, 0, values_read, 16, marks_read, 16), GRIB1_PACKING);
     same(memcmp(values_read, untouched, sizeof untouched), 0);
     same(checked(16), GRIB1_PACKING);
+    unanswered(__LINE__, message, length, 0, none, 0, GRIB1_PACKING, 0, 0);
 }
 
 int main(void)

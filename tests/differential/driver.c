@@ -218,6 +218,28 @@ static void about_message(uint32_t function)
     }
 }
 
+static void about_cursor(uint32_t function)
+{
+    size_t m_len, s_len, i_len;
+    uint8_t *m = list(1, 0, &m_len);
+    uint16_t number = (uint16_t)word();
+    uint8_t *s = list(1, 0, &s_len);
+    uint32_t *index = list(4, function == 13, &i_len);
+
+    if (function == 13) {
+        Grib1Indexed indexed = grib1_index(m, m_len, number, s, s_len, index, i_len);
+        tell_reply(indexed.reply, indexed.section, indexed.place);
+        tell(indexed.entries);
+    } else {
+        uint32_t row = word();
+        uint32_t column = word();
+        Grib1Cursor cursor = grib1_cursor(m, m_len, number, s, s_len, index, i_len, row, column);
+        tell_reply(cursor.reply, cursor.section, cursor.place);
+        tell(cursor.kind);
+        tell(cursor.value);
+    }
+}
+
 static void about_chart(uint32_t function)
 {
     Grib1Grid g = grid();
@@ -300,8 +322,10 @@ int main(void)
             about_chart(function);
         else if (function <= 10)
             writing(function);
-        else
+        else if (function == 11)
             before_writing();
+        else
+            about_cursor(function);
         tell_buffers();
         len = (uint32_t)answered;
         fwrite(&len, 1, 4, stdout);

@@ -68,7 +68,9 @@ static void about_message(uint32_t function)
     Grib1Display display;
     Grib1Data data;
     Grib1Checked checked;
-    uint32_t *values;
+    Grib1Indexed indexed;
+    Grib1Cursor cursor;
+    uint32_t *values, row;
     int32_t *numbers;
     uint8_t *marks;
 
@@ -106,6 +108,18 @@ static void about_message(uint32_t function)
         marks = list(1, &marks_len);
         checked = grib1_check(m, m_len, number, s, s_len, numbers, values_len, marks, marks_len, (int32_t)word());
         answer(&checked, sizeof checked);
+        break;
+    case 13:
+        values = list(4, &values_len);
+        indexed = grib1_index(m, m_len, number, s, s_len, values, values_len);
+        answer(&indexed, sizeof indexed);
+        answer(values, values_len * 4);
+        break;
+    case 14:
+        values = list(4, &values_len);
+        row = word();
+        cursor = grib1_cursor(m, m_len, number, s, s_len, values, values_len, row, word());
+        answer(&cursor, sizeof cursor);
         break;
     }
 }
@@ -182,7 +196,7 @@ int main(void)
     if (fread(asked, 1, sizeof asked, stdin) == sizeof asked)
         return 2;
     function = word();
-    if (function < 7)
+    if (function < 7 || function > 12)
         about_message(function);
     else if (function < 10)
         on_chart(function);

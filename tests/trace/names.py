@@ -113,7 +113,8 @@ def theorems(cell, at):
 def vectors():
     """The vectors of the tables in tests/vectors by table and name, with their replies."""
     out = {}
-    for table, page in (("read", "READING.md"), ("write", "WRITING.md"), ("check", "CHECKING.md"), ("pack", "PACKING.md")):
+    pages = {"read": "READING.md", "write": "WRITING.md", "check": "CHECKING.md", "pack": "PACKING.md", "cursor": "CURSOR.md"}
+    for table, page in pages.items():
         for name, reply in re.findall(r"(?m)^\| `([\w-]+)` \| (\d+) \|", text("tests", "vectors", page)):
             out[table, name] = reply
     return out
@@ -124,7 +125,7 @@ tests_in_rust = text("tests", "second_reading")
 
 
 def tested(kind, name, at):
-    if kind in ("read", "write", "check", "pack"):
+    if kind in ("read", "write", "check", "pack", "cursor"):
         m = re.fullmatch(r"([\w-]+) \((\d+)\)", name)
         want(m, f"{at}: no vector with its reply: {name}")
         if m:

@@ -1,22 +1,19 @@
 -- The bits of the bitmap in force are bits of the message or of the store. Assumes nothing.
 use mathlib.Core.Path.{_≡_, refl, sym, ap, ap₂, _∙_}
 use mathlib.Core.List.{List}
-use Prim.Native.Nat.{ℕ, zero, suc, _+_, _*_, _/_, _%_, _<_}
-use native.Mathlib.Numerals.{add-one}
+use Prim.Native.Nat.{ℕ, _+_, _*_, _/_, _%_, _<_}
+use native.Mathlib.Nat.{zero-add}
 use native.Mathlib.Omega.{arith}
 use lib.ListN.{take, drop, getD}
 use lib.Seq.{getD-drop, getD-take}
 use Rattle.rules.specs.declared.Part.{Part}
+use Rattle.rules.specs.declared.Bitmap.{Bitmap}
 use Rattle.rules.specs.declared.Bitmap.the-variants.{Without, Carried, Stored}
+use Rattle.rules.specs.Bounds.{bmsHead}
 use Rattle.bits.specs.Bits.{bitOf, bitsIn, count, octetsFor}
 use Rattle.rules.specs.Bitmap.{inForce, bitmapOctets, presentBy}
-use Rattle.bits.proofs.Ones.{count-ext}
-
--- with no bitmap each point counts
-pub all-in : (bits : List ℕ) (at n : ℕ) → count (presentBy Without bits) at n ≡ n
-unfolding count presentBy
-all-in bits at zero = refl
-all-in bits at (suc n) = add-one (count (presentBy Without bits) at n) ∙ ap suc (all-in bits at n)
+use Rattle.bits.proofs.Ones.{count-ext, count-ones}
+use Rattle.bitmap.specs.Held.{held}
 
 -- a bit of a part
 pub bit-part : (s : List ℕ) (a n j : ℕ) → j < n
@@ -35,7 +32,8 @@ part s a n = count-ext (bitsIn 8 s) (bitsIn 8 (take (octetsFor n) (drop a s))) (
 
 pub without : (s store : List ℕ) (p : Part) (n : ℕ)
     → n ≡ count (presentBy Without (bitmapOctets s store (inForce Without p n))) 0 n
-without s store p n = sym (all-in (bitmapOctets s store (inForce Without p n)) 0 n)
+unfolding presentBy
+without s store p n = count-ones (presentBy Without (bitmapOctets s store (inForce Without p n))) 0 n (λ j l. refl)
 
 pub carried : (s store : List ℕ) (p : Part) (n r : ℕ) → r ≡ count (bitsIn 8 s) ((p .start + 6) * 8) n
     → r ≡ count (presentBy Carried (bitmapOctets s store (inForce Carried p n))) 0 n
@@ -46,3 +44,14 @@ pub stored : (s store : List ℕ) (p : Part) (k n r : ℕ) → r ≡ count (bits
     → r ≡ count (presentBy (Stored k) (bitmapOctets s store (inForce (Stored k) p n))) 0 n
 unfolding presentBy bitmapOctets inForce
 stored s store p k n r e = e ∙ part store 0 n
+
+-- of n points, what code reads is presence by the bitmap in force
+pub held-is : (bitmap : Bitmap) (s store : List ℕ) (p : Part) (n i : ℕ) → i < n
+    → held bitmap s store (p .start + bmsHead) i ≡ presentBy bitmap (bitmapOctets s store (inForce bitmap p n)) i
+unfolding held presentBy bitmapOctets inForce
+held-is Without s store p n i l = refl
+held-is Carried s store p n i l =
+    bit-part s (p .start + bmsHead) n i l
+    ∙ ap (bitsIn 8 (take (octetsFor n) (drop (p .start + bmsHead) s))) (zero-add i)
+held-is (Stored k) s store p n i l =
+    bit-part store 0 n i l ∙ ap (bitsIn 8 (take (octetsFor n) (drop 0 store))) (zero-add i)

@@ -8,7 +8,7 @@ use borrow.Author.Tests.{le-leb}
 use Rattle.rules.specs.Bounds.{bdsHead}
 use Rattle.runs.specs.Take.{unpackFits}
 use Rattle.bitreader.specs.declared.{TakenAll.TakenAll}
-use Rattle.bitreader.specs.Taken.{placeMost, reached, takenAll, dataPlace}
+use Rattle.bitreader.specs.Taken.{placeMost, reached, takenAll, dataPlace, valuePlace}
 
 pub reached-sum : (at n : ℕ) → at + n ≤ placeMost → reached at n ≡ at + n
 unfolding reached
@@ -26,3 +26,9 @@ unfolding dataPlace
 data-begins b h =
     let z = zero-add ((b + bdsHead) * 8) in
     reached-sum 0 ((b + bdsHead) * 8) (omega (arith, z)) ∙ z
+
+-- so is where a value begins
+pub value-begins : (b n k : ℕ) → (b + bdsHead) * 8 + k * n ≤ placeMost → valuePlace b n k ≡ (b + bdsHead) * 8 + k * n
+unfolding valuePlace
+value-begins b n k h =
+    ap (λ (at : ℕ). reached at (k * n)) (data-begins b (omega arith)) ∙ reached-sum ((b + bdsHead) * 8) (k * n) h

@@ -26,3 +26,7 @@ takenAll at n m room =
 -- "data from 12": the place where the values of a data section begin that starts at octet b
 unfoldable pub dataPlace : ℕ → ℕ
 dataPlace b = reached 0 ((b + bdsHead) * 8)
+
+-- and, as values "are taken one after another", the place where value k of n bits each begins
+unfoldable pub valuePlace : ℕ → ℕ → ℕ → ℕ
+valuePlace b n k = reached (dataPlace b) (k * n)

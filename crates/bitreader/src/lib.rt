@@ -5,7 +5,7 @@ ghost use mathlib.Core.Path.{_≡_};
 ghost use Prim.Native.Nat.{_<_, _^_};
 ghost use lib.ListN.{length};
 ghost use Rattle.runs.specs.Take.{unpacked};
-ghost use Rattle.bitreader.specs.Taken.{takenAt, takenAll, dataPlace, reached as theReached};
+ghost use Rattle.bitreader.specs.Taken.{takenAt, takenAll, dataPlace, valuePlace, reached as theReached};
 use rules::bounds::BDS_HEAD;
 use runs::fetch;
 use runs::unpack;
@@ -114,4 +114,11 @@ pub fn data_place(start: u32) -> u32
     ensures { λ r. ⌜ r ≡ dataPlace start ⌝ }
 {
     reached(0, (start as u64 + BDS_HEAD as u64) * 8)
+}
+
+// Where value k of n bits each begins in such a section. The greatest place stays.
+pub fn value_place(start: u32, n: u8, k: u32) -> u32
+    ensures { λ r. ⌜ r ≡ valuePlace start n k ⌝ }
+{
+    reached(data_place(start), k as u64 * n as u64)
 }

@@ -87,16 +87,17 @@ count-mono f at i m h =
     let e : i + (m - i) ≡ m = omega arith in
     omega (arith, count-split f at i (m - i), ap (count f at) e)
 
--- eight octets more
-pub count-eight : (s : List ℕ) (k j : ℕ)
-    → count (bitsIn 8 s) (k * 8) ((j + 8) * 8)
-    ≡ count (bitsIn 8 s) (k * 8) (j * 8) + ones (run (bitsIn 8 s) ((k + j) * 8) 64)
-count-eight s k j =
-    let e : (j + 8) * 8 ≡ j * 8 + 64 = omega arith in
-    let p : k * 8 + j * 8 ≡ (k + j) * 8 = omega arith in
-    ap (count (bitsIn 8 s) (k * 8)) e ∙ count-split (bitsIn 8 s) (k * 8) (j * 8) 64
-    ∙ ap (λ (y : ℕ). count (bitsIn 8 s) (k * 8) (j * 8) + y)
-    (ap (λ (y : ℕ). count (bitsIn 8 s) y 64) p ∙ sym (ones-run (bitsIn-bits 8 s) ((k + j) * 8) 64))
+-- one bit more
+pub count-next : (f : ℕ → ℕ) (at n : ℕ) → count f at (n + 1) ≡ count f at n + f (at + n)
+unfolding count
+count-next f at n = ap (count f at) (add-one n)
+
+-- where every bit is a one
+pub count-ones : (f : ℕ → ℕ) (at n : ℕ) → ((j : ℕ) → j < n → f (at + j) ≡ 1) → n ≡ count f at n
+unfolding count
+count-ones f at zero h = refl
+count-ones f at (suc n) h =
+    omega (arith, count-ones f at n (λ j l. h j (omega arith)), h n (omega arith))
 
 -- past the end there are no ones
 pub count-zero : (f : ℕ → ℕ) (at n : ℕ) → ((j : ℕ) → j < n → f (at + j) ≡ 0) → count f at n ≡ 0

@@ -1,11 +1,10 @@
 -- The points out: a turn of the loop over numbers and X, the X as bits of the message, a block of points, and a turn of
 -- the loop over blocks.
-use mathlib.Core.Path.{_≡_, refl, sym, ap, ap₂, _∙_, subst}
+use mathlib.Core.Path.{_≡_, sym, ap, ap₂, _∙_, subst}
 use mathlib.Core.Bool.{Bool, _||_, _&&_, cond}
 use mathlib.Core.List.{List}
-use Prim.Native.Nat.{ℕ, zero, suc, _+_, _*_, _^_, _<_, _≤_}
-use native.Mathlib.Nat.{add-mul, zero-mul, mul-le-mul}
-use native.Mathlib.Numerals.{add-one}
+use Prim.Native.Nat.{ℕ, _+_, _*_, _^_, _<_, _≤_}
+use native.Mathlib.Nat.{add-mul, zero-add, zero-mul, mul-le-mul}
 use native.Mathlib.Omega.{arith}
 use borrow.Author.Tests.{eq-eqb}
 use lib.Dec.{eqb}
@@ -18,7 +17,7 @@ use mir.Facts.{toZ-ofZ}
 use Rattle.bits.specs.Bits.{bitsIn, run, runs, count}
 use Rattle.bits.specs.Tables.{anyBelow}
 use Rattle.bits.proofs.Trip.{length-runs, getD-runs}
-use Rattle.bits.proofs.Ones.{count-one, count-le}
+use Rattle.bits.proofs.Ones.{count-ones, count-le}
 use Rattle.bits.proofs.Below.{any-next, any-ext}
 use Rattle.runs.specs.Take.{unpacked}
 use Rattle.runs.proofs.Lists.{unpacked-fits}
@@ -62,12 +61,10 @@ far-held s numbers held d at n c r rv e er l h u q p =
 -- a block of points, each of them present
 pub count-all : (marks : List ℕ) (i c : ℕ) → ((j : ℕ) → j < c → markOf marks (i + j) ≡ 1)
     → c ≡ count (hereFrom marks i) 0 c
-unfolding count
-count-all marks i zero h = refl
-count-all marks i (suc c) h =
-    let one : hereFrom marks i c ≡ 1 = sym (here-is marks (i + c) 1 (sym (ap (λ (t : Bool). cond t 1 0) (eq-eqb _ _ (h c (omega arith)))))) in
-    sym (ap (count (hereFrom marks i) 0) (sym (add-one c)) ∙ count-one (hereFrom marks i) c one
-    ∙ ap (λ (x : ℕ). x + 1) (sym (count-all marks i c (λ j l. h j (omega arith)))) ∙ add-one c)
+count-all marks i c h =
+    count-ones (hereFrom marks i) 0 c
+    (λ j l. ap (hereFrom marks i) (zero-add j)
+    ∙ sym (here-is marks (i + j) 1 (sym (ap (λ (t : Bool). cond t 1 0) (eq-eqb _ _ (h j l))))))
 
 -- the points of a block that are out, where each is present, and where some are
 module _ (s : List ℕ) (numbers : List ℤ) (marks : List ℕ) (i at n : ℕ) (r rv : ℤ) (er : rv ≡ r) (e : ℕ) where

@@ -4,7 +4,7 @@ use mathlib.Core.Bool.{Bool, true, false, not, _||_, cond, or-assoc}
 use mathlib.Core.List.{List}
 use Prim.Native.Nat.{ℕ, zero, suc, _+_, _-_, _*_, _^_, _<_, _≤_}
 use native.Mathlib.Omega.{arith}
-use borrow.Author.Tests.{eqb-true, ltb-false}
+use borrow.Author.Tests.{eqb-true}
 use lib.Dec.{T, eqb, ltb, lit<}
 use lib.IntN.{ℤ, pos, negℤ, natAbs}
 use lib.Signed.{mag, nonNeg, ltZ}
@@ -25,12 +25,10 @@ use Rattle.rules.specs.Table.{anyOf, orAll}
 use Rattle.rules.specs.Numbers.{signed}
 use Rattle.rules.specs.Places.{pdsStart, hasGrid, hasBitmap, placesOf, sectionAt, after}
 use Rattle.rules.specs.Bitmap.{Lent, markOf, presentBy, bitmapOctets, inForce}
-use Rattle.rules.specs.Values.{packingFaults, wholeOf}
+use Rattle.rules.specs.Values.{wholeOf}
 use Rattle.rules.specs.Reading.{headerOf, foundIn, foundBy, pointsIn, bitmapIn, inForceIn, presentIn, packingIn}
 use Rattle.rules.specs.Reading.{decimalIn}
 use Rattle.rules.specs.Checking.{Source, sourceFaults, decimalDiffers, sourceDiffers, scaleFaults, pointOut}
-use Rattle.laws.proofs.Rows.{none-of}
-use Rattle.laws.proofs.Judged.{judged}
 use Rattle.laws.proofs.Data.{dataPlace}
 use Rattle.laws.proofs.Sources.{well-formed}
 use Rattle.laws.proofs.Agreed.{agrees, in-range}
@@ -104,10 +102,7 @@ start-small s =
 -- where the data are, from the header
 module _ (s : List ℕ) (lent : Lent) (h : Header) (e : h ≡ headerOf s lent) (z : h .refusal .number ≡ 0) where
   pub bits-most : h .packing .bits ≤ bitsMost
-  unfolding packingFaults
-  bits-most =
-      let p = none-of (packingFaults (packingIn s)) (judged s lent (subst T (sym (S.taken s lent h e z)) tt) .packing) in
-      subst (λ (x : Packing). x .bits ≤ bitsMost) (sym (S.packing-of s lent h e z)) (ltb-false _ _ (p .1 .0))
+  bits-most = S.narrow s lent h e z
 
   data-start : h .places .bds .start < 2 ^ 26
   data-start = subst (λ (x : Places). x .bds .start < 2 ^ 26) (sym (S.places-of s lent h e z)) (start-small s)

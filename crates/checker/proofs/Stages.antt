@@ -11,16 +11,15 @@ use mir.Val.{toZ, ofZ}
 use Rattle.bits.specs.Tables.{anyBelow}
 use Rattle.rules.specs.declared.{Refusal.Refusal, Scale.Scale, Header.Header}
 use Rattle.rules.specs.Bounds.{bdsHead}
-use Rattle.rules.specs.Table.{refusal, anyOf, firstOr, first, accepted}
+use Rattle.rules.specs.Table.{refusal, anyOf, firstOr, accepted}
 use Rattle.rules.specs.Bitmap.{Lent, markOf, presentBy, bitmapOctets, inForce}
 use Rattle.rules.specs.Values.{wholeOf}
-use Rattle.rules.specs.Reading.{messageTable, ownRefusal, headerOf}
+use Rattle.rules.specs.Reading.{ownRefusal, headerOf}
 use Rattle.rules.specs.Checking.{Source, sourceFaults, decimalDiffers, scaleFaults, checkTable, checkOf}
 use Rattle.laws.specs.Sources.{WellFormed}
-use Rattle.laws.proofs.Judged.{own-numbered}
 use Rattle.laws.proofs.Sources.{well-formed}
 use Rattle.message.proofs.Said as S
-use Rattle.reply.proofs.Stages.{or-append, staged}
+use Rattle.message.proofs.Stages.{own-first}
 use Rattle.source.specs.Whole.{wholeFrom}
 use Rattle.bitreader.specs.Taken.{dataPlace}
 use Rattle.checker.specs.Points.{out}
@@ -29,19 +28,17 @@ use Rattle.checker.proofs.Rows.{whole-is, differ-is, out-is, data-begun
 
 -- the message's own rows first
 module _ (s : List ℕ) (lent : Lent) (f : Source) where
-  own-first : checkOf s lent f
+  checked-after : checkOf s lent f
       ≡ cond (accepted (ownRefusal s lent)) (firstOr (checkRows s lent f) (refusal 0)) (ownRefusal s lent)
-  unfolding checkOf checkTable checkRows ownRefusal first firstOr
-  own-first =
-      or-append (messageTable s lent) (checkRows s lent f) (refusal 0)
-      ∙ staged (messageTable s lent) (firstOr (checkRows s lent f) (refusal 0)) (own-numbered s lent)
+  unfolding checkOf checkTable checkRows
+  checked-after = own-first s lent (checkRows s lent f)
 
   module _ (h : Header) (e : h ≡ headerOf s lent) where
     pub own-refused : (h .refusal .number ≡ 0 → ⊥) → h .refusal ≡ checkOf s lent f
-    own-refused n = S.own s lent h e ∙ sym (own-first ∙ rw (S.refused s lent h e n))
+    own-refused n = S.own s lent h e ∙ sym (checked-after ∙ rw (S.refused s lent h e n))
 
     judged-of : h .refusal .number ≡ 0 → firstOr (checkRows s lent f) (refusal 0) ≡ checkOf s lent f
-    judged-of n = sym (own-first ∙ rw (S.taken s lent h e n))
+    judged-of n = sym (checked-after ∙ rw (S.taken s lent h e n))
 
 pub source-judged : (s : List ℕ) (lent : Lent) (numbers : List ℤ) (marks : List ℕ) (d dv : ℤ) → dv ≡ d → (h : Header)
     → h ≡ headerOf s lent → h .refusal .number ≡ 0

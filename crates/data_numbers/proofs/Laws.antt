@@ -3,30 +3,22 @@
 use mathlib.Core.Path.{_≡_, refl, sym, ap, ap₂, _∙_}
 use mathlib.Core.Bool.{Bool, true, false, cond}
 use mathlib.Core.List.{List}
-use Prim.Native.Nat.{ℕ, zero, suc, _+_, _*_, _/_, _%_, _-_, _^_, _<_, _≤_}
-use native.Mathlib.Numerals.{add-one}
+use Prim.Native.Nat.{ℕ, _+_, _*_, _-_, _<_, _≤_}
 use native.Mathlib.Omega.{arith}
 use borrow.Author.Tests.{lt-ltb, le-ltb, ltb-true, ltb-false, eq-eqb, ne-eqb}
 use lib.Dec.{ltb, eqb}
-use lib.ListN.{take, drop, getD}
+use lib.ListN.{take, drop}
 use Rattle.rules.specs.declared.{Header.Header, Bitmap.the-variants.Without, Bitmap.the-variants.Carried}
 use Rattle.rules.specs.declared.{Bitmap.the-variants.Stored}
-use Rattle.bits.specs.Bits.{bitOf, bitsIn, count, octetsFor}
+use Rattle.bits.specs.Bits.{bitsIn, count, octetsFor}
 use Rattle.bits.proofs.Ones.{count-ext}
 use Rattle.rules.specs.Bitmap.{Lent, presentBy, bitmapOctets, inForce}
 use Rattle.rules.specs.Points.{Numbering, numbered, absent, outside, dataNumber}
 use Rattle.rules.specs.Reading.{headerOf, numberingOf, presentIn, inForceIn}
 use Rattle.bitmap.proofs.Laws.{bit-part}
 use Rattle.message.proofs.Said as S
-use Rattle.data_numbers.specs.Told.{bitsFrom, always}
-
--- the bit at place i from octet p on, as code takes it out of its octet
-pub bit-at : (s : List ℕ) (p i x : ℕ) → x ≡ getD s (p + i / 8 + 0) 0 → x / 2 ^ (7 - i % 8) % 2 ≡ bitsFrom s p i
-unfolding bitsIn bitOf
-bit-at s p i x e =
-    let a : (p * 8 + i) / 8 ≡ p + i / 8 + 0 = omega arith in
-    let b : (p * 8 + i) % 8 ≡ i % 8 = omega arith in
-    ap (λ (y : ℕ). y / 2 ^ (7 - i % 8) % 2) e ∙ sym (ap₂ (λ (y z : ℕ). getD s y 0 / 2 ^ (7 - z) % 2) a b)
+use Rattle.bitmap.specs.Held.{bitsFrom}
+use Rattle.data_numbers.specs.Told.{always}
 
 module _ (f : ℕ → ℕ) (n i : ℕ) where
   pub out : n ≤ i → outside ≡ dataNumber f n i
@@ -47,11 +39,6 @@ count-from s p n r e =
     e
     ∙ count-ext (bitsIn 8 s) (bitsFrom s p) (p * 8) 0 n
     (λ (j : ℕ) h. ap (λ (k : ℕ). bitsIn 8 s (p * 8 + k)) (omega arith))
-
-pub count-all : (n : ℕ) → n ≡ count always 0 n
-unfolding count
-count-all zero = refl
-count-all (suc n) = ap suc (count-all n) ∙ sym (add-one (count always 0 n))
 
 -- two ways to say presence that agree below n
 module _ (f g : ℕ → ℕ) (n i : ℕ) (h : (j : ℕ) → j < n → f j ≡ g j) where

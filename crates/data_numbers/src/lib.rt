@@ -5,11 +5,12 @@ ghost use Prim.Native.Nat.{_<_};
 ghost use Rattle.rules.specs.Bitmap.{presentBy, lentAs};
 ghost use Rattle.rules.specs.Points.{dataNumber};
 ghost use Rattle.rules.specs.Reading.{numberingOf};
-ghost use Rattle.data_numbers.specs.Told.{told, bitsFrom, always};
+ghost use Rattle.bitmap.specs.Held.{bitsFrom};
+ghost use Rattle.data_numbers.specs.Told.{told, always};
 use message::header;
-use octets::octet;
 use rules::Bitmap;
 use rules::GridPoint;
+use runs::bit;
 use runs::ones;
 
 // A present point's number among the present ones.
@@ -29,15 +30,6 @@ impl DataPoint {
     {
         self.0
     }
-}
-
-// The bit at place i of the octets from place p on.
-fn bit(s: &[u8], p: usize, i: u32) -> u32
-    requires { ⌜ p < 8589934592 ⌝ }
-    ensures { λ r. ⌜ r ≡ bitsFrom (now (s .entry)) p i ⌝ }
-{
-    let x = octet(s, p + (i / 8) as usize, 1) as u32;
-    (x >> (7 - i % 8)) % 2
 }
 
 // "A present grid point's data number is the count of ones before it in the bitmap", whose n bits start at octet p.

@@ -8,23 +8,22 @@ use native.Mathlib.Omega.{arith}
 use borrow.Author.Tests.{ltb-false}
 use lib.Dec.{T, ltb}
 use lib.ListN.{length, drop}
-use Rattle.rules.specs.declared.{Refusal.Refusal, Places.Places, Packing.Packing, Header.Header}
+use Rattle.rules.specs.declared.{Refusal.Refusal, Places.Places, Header.Header}
 use Rattle.bits.specs.Bits.{bitsIn, count, runs}
 use Rattle.bits.specs.Tables.{tab}
 use Rattle.bits.proofs.Fill.{length-tab}
-use Rattle.rules.specs.Bounds.{messageLeast, messageMost, bitsMost, bdsHead}
+use Rattle.rules.specs.Bounds.{messageMost, bitsMost, bdsHead}
 use Rattle.rules.specs.Table.{refusal, accepted, filled}
-use Rattle.rules.specs.Places.{after, sizeBad}
+use Rattle.rules.specs.Places.{after}
 use Rattle.rules.specs.Bitmap.{Lent, inForce, presentBy, bitmapOctets, marksLong}
 use Rattle.rules.specs.Points.{scattered}
-use Rattle.rules.specs.Values.{packingFaults, valuesAt}
 use Rattle.rules.specs.Reading.{parsedOf, foundBy, foundIn, refusedBy, ownRefusal, answerBy, headerOf, inForceIn}
-use Rattle.rules.specs.Reading.{pointsIn, presentIn, presentCount, packingIn, valuesIn, marksIn, readTable, readRefusal}
+use Rattle.rules.specs.Reading.{pointsIn, presentIn, presentCount, valuesIn, marksIn, readTable, readRefusal}
 use Rattle.rules.specs.Reading.{readOf, valuesAfter, marksAfter}
 use Rattle.bits.proofs.Tests.{or-false}
-use Rattle.laws.proofs.Rows.{none-of, inside}
-use Rattle.laws.proofs.Judged.{own-zero, judged}
-use Rattle.laws.proofs.Data.{data-runs}
+use Rattle.laws.proofs.Rows.{inside}
+use Rattle.laws.proofs.Judged.{own-zero}
+use Rattle.laws.proofs.Data.{size-most, data-runs}
 use Rattle.laws.proofs.Sections.{sections}
 use Rattle.laws.proofs.Bounded.{bitmap-inside}
 use Rattle.bitreader.specs.Taken.{dataPlace}
@@ -95,11 +94,7 @@ module _ (s : List ℕ) (lent : Lent) (v w : List ℕ) where
 
       -- what filling asks
       pub narrow : h .packing .bits ≤ bitsMost
-      unfolding packingFaults
-      narrow =
-          subst (λ (x : Packing). x .bits ≤ bitsMost) (sym (S.packing-of s lent h e z))
-          (ltb-false bitsMost (packingIn s .bits)
-          (none-of (packingFaults (packingIn s)) (judged s lent took .packing) .1 .0))
+      narrow = S.narrow s lent h e z
 
       pub counted : h .present
           ≡ count (presentBy (h .bitmap)
@@ -128,11 +123,9 @@ module _ (s : List ℕ) (lent : Lent) (v w : List ℕ) where
 
       -- the data's place is no large number
       pub early : h .places .bds .start ≤ messageMost
-      unfolding sizeBad
       early =
-          let a = sections s lent took .end in
-          let b = inside messageLeast messageMost (length s) (judged s lent took .size) .1 in
-          subst (λ (x : Places). x .bds .start ≤ messageMost) (sym (S.places-of s lent h e z)) (omega arith)
+          subst (λ (x : Places). x .bds .start ≤ messageMost) (sym (S.places-of s lent h e z))
+          (omega (arith, sections s lent took .end, size-most s lent took))
 
       own : ownRefusal s lent ≡ refusal 0
       own = own-zero s lent (S.taken s lent h e z)

@@ -5,6 +5,7 @@ ghost use mathlib.Core.Path.{_≡_};
 ghost use Rattle.rules.specs.Chart.{rowLong, charted, pointed};
 ghost use Rattle.rules.specs.Grid.{shapeOf};
 ghost use Rattle.rules.specs.Reading.{headerOf, readOf, valuesAfter, marksAfter, sectionOf, bitmapOf, numberingOf};
+ghost use Rattle.rules.specs.Cursor.{indexOf, indexAfter, cursorOf};
 ghost use Rattle.rules.specs.Display.{displayOf};
 ghost use Rattle.rules.specs.Writing.{writeOf, outputAfter, lengthFor};
 ghost use Rattle.rules.specs.Checking.{checkOf, sourceAs};
@@ -13,26 +14,30 @@ ghost use Rattle.framing.specs.Given.{parts as theParts};
 ghost use Rattle.records.specs.Forms.{gridBack, formBy, scaleBy};
 ghost use Rattle.point_records.specs.Records.{forceRecord, dataRecord};
 ghost use Rattle.records.specs.Records.{partRecord, headerRecord, placeRecord, pointRecord, displayRecord};
-ghost use Rattle.records.specs.Records.{writtenRecord, checkRecord};
+ghost use Rattle.records.specs.Records.{writtenRecord, checkRecord, indexedRecord, cursorRecord};
 ghost use Rattle.rules.specs.Bitmap.{lentAs};
 use chart::shape_of;
 use point_records::DataRecord;
 use point_records::data_record;
 use point_records::force_record;
 use records::CheckRecord;
+use records::CursorRecord;
 use records::DisplayRecord;
 use records::FormRecord;
 use records::GridRecord;
 use records::HeaderRecord;
+use records::IndexedRecord;
 use records::PartRecord;
 use records::PlaceRecord;
 use records::PointRecord;
 use records::WrittenRecord;
 use records::check_record;
+use records::cursor_record;
 use records::display_record;
 use records::form_by;
 use records::grid_back;
 use records::header_record;
+use records::indexed_record;
 use records::part_record;
 use records::place_record;
 use records::point_record;
@@ -136,6 +141,40 @@ pub extern "C" fn grib1_data_number(
     ensures { λ r. ⌜ r ≡ dataRecord (numberingOf (now (message .entry)) (lentAs number (now (store .entry))) point) ⌝ }
 {
     data_record(data_numbers::data_number(message, number, store, GridPoint(point)))
+}
+
+// Fills the front of a lent index for a message: the ones before each group of grid points.
+#[no_mangle]
+pub extern "C" fn grib1_index(
+    message: &[u8],
+    number: u16,
+    store: &[u8],
+    index: &mut [u32],
+) -> IndexedRecord
+    ensures { λ r. ⌜ r ≡
+        indexedRecord (indexOf (now (message .entry)) (lentAs number (now (store .entry))) (now (index .entry))) ⌝ }
+    ensures { λ _. ⌜ now (index .exit) ≡
+        indexAfter (now (message .entry)) (lentAs number (now (store .entry))) (now (index .entry)) ⌝ }
+{
+    indexed_record(cursor::fill(message, number, store, index))
+}
+
+// The value or absence at a place of a message's chart, by an index.
+#[no_mangle]
+pub extern "C" fn grib1_cursor(
+    message: &[u8],
+    number: u16,
+    store: &[u8],
+    index: &[u32],
+    row: u32,
+    column: u32,
+) -> CursorRecord
+    ensures { λ r. ⌜ r ≡
+        cursorRecord
+        (cursorOf (now (message .entry)) (lentAs number (now (store .entry))) (now (index .entry))
+        (record { row = row; column = column })) ⌝ }
+{
+    cursor_record(cursor::under(message, number, store, index, Spot { row, column }))
 }
 
 // How many octets the message of a PDS, a form and marks takes, whatever its E, R and values.

@@ -12,13 +12,13 @@ use Rattle.rules.specs.declared.{Bitmap.the-variants.Carried, Bitmap.the-varian
 use Rattle.bits.specs.Bits.{octetsFor}
 use Rattle.rules.specs.Table.{accepted}
 use denote.Ref.{RefT}
-use Rattle.rules.specs.Places.{IsPart, noPart, after, sizeBad, placesOf, sectionAt, sectionsOf}
+use Rattle.rules.specs.Places.{IsPart, noPart, after, placesOf, sectionAt, sectionsOf}
 use Rattle.rules.specs.Bitmap.{Lent, inForce, noBitmap, IsInForce}
 use Rattle.rules.specs.Reading.{ownRefusal, headerOf, sectionOf, inForceIn, bitmapOf}
-use Rattle.rules.specs.Bounds.{messageLeast, messageMost}
+use Rattle.rules.specs.Bounds.{messageMost}
 use Rattle.laws.specs.Taken.{Taken, Inside}
 use Rattle.laws.proofs.Rows.{inside}
-use Rattle.laws.proofs.Judged.{judged}
+use Rattle.laws.proofs.Data.{size-most}
 use Rattle.laws.proofs.Sections.{reads-inside}
 use Rattle.laws.proofs.Bounded.{bitmap-inside}
 use Rattle.message.proofs.Said as S
@@ -55,8 +55,7 @@ module _ (s : List ℕ) (lent : Lent) (h : Header) (e : h ≡ headerOf s lent) w
     within = reads-inside s lent took
 
     few : length s ≤ messageMost
-    unfolding sizeBad
-    few = inside messageLeast messageMost (length s) (judged s lent took .size) .1
+    few = size-most s lent took
 
     pub room : after (h .places .bds) < 4294967296
     room = omega (arith, ap {B = ℕ} (λ (x : Places). after (x .bds) + 4) places-of ∙ within .end, few)

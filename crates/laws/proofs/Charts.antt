@@ -1,21 +1,23 @@
 -- The chart of any shape: the point of a place inside is one of its points, and its rows, from north, have no more
 -- points together than it has. By the two kinds of shape, and by induction on the rows.
 use Prim.Native.Nat.{ℕ, zero, suc, _+_, _-_, _*_, _<_, _≤_}
-use mathlib.Core.Bool.{Bool, true, false, cond}
+use mathlib.Core.Bool.{Bool, true, false, _&&_, cond}
 use mathlib.Core.Path.{_≡_, refl, sym, subst, _∙_, ap}
 use mathlib.Core.List.{List}
 use native.Mathlib.Nat.{mul-comm, suc-mul, zero-mul, zero-add, mul-le-mul-right}
 use native.Mathlib.Numerals.{add-one}
 use native.Mathlib.Omega.{arith}
-use borrow.Author.Tests.{lt-ltb}
+use borrow.Author.Tests.{lt-ltb, ltb-true}
 use lib.Arith.{digits-lt}
 use lib.Dec.{ltb}
 use lib.ListN.{length, getD}
 use Rattle.rules.specs.declared.{Rectangle.Rectangle, Thinning.Thinning, Shape.Shape, Shape.the-variants.Even}
-use Rattle.rules.specs.declared.{Shape.the-variants.Uneven, Spot.Spot}
+use Rattle.rules.specs.declared.{Shape.the-variants.Uneven, Spot.Spot, GridPoint.GridPoint, Pointed.the-variants.At}
+use Rattle.rules.specs.declared.{Pointed.the-variants.Off as Nowhere}
 use Rattle.rules.specs.Counts.{total, beforeRow, countsOf}
 use Rattle.rules.specs.Chart.{west, north, byColumn, turned, pointOf, across, pointAmong, pointsOn, rowsOn, rowLong}
-use Rattle.rules.specs.Chart.{pointOn}
+use Rattle.rules.specs.Chart.{pointOn, pointed}
+use Rattle.bits.proofs.Tests.{both}
 use Rattle.laws.proofs.Counts.{joined, before-first, before-next, before-most, before-all}
 
 -- a direction turned: it stays below its bound, and it is its own way back
@@ -66,6 +68,27 @@ unfolding pointsOn rowsOn rowLong pointOn
 point-lt (Even q) c hr hc =
     even-lt (q .ni) (q .nj) (q .scan) c hr (subst (λ (x : ℕ). c .column < x) (row-even q (c .row) hr) hc)
 point-lt (Uneven u) c hr hc = among-lt (countsOf (u .start)) (u .scan) c hr hc
+
+-- a place that has a point is inside, and the point is one of the shape's
+at-is : (b : Bool) (x k : GridPoint) → cond b (At x) Nowhere ≡ At k → (b ≡ true) × (x ≡ k)
+at-is true x k e = (refl, cc)
+at-is false x k e = absurd (let z : _≡_ {A = ℕ} 0 1 = cc in omega arith)
+
+pub record Found (g : Shape) (c : Spot) (k : ℕ) : Type 0 where
+  pub row : c .row < rowsOn g
+  pub column : c .column < rowLong g (c .row)
+  pub is : pointOn g c ≡ k
+  pub below : k < pointsOn g
+
+pub found : (g : Shape) (c : Spot) (k : GridPoint) → pointed g c ≡ At k → Found g c (k .0)
+unfolding pointed
+found g c k e =
+    let h = at-is (ltb (c .row) (rowsOn g) && ltb (c .column) (rowLong g (c .row))) (record { 0 = pointOn g c }) k e in
+    let b = both (ltb (c .row) (rowsOn g)) (ltb (c .column) (rowLong g (c .row))) (h .0) in
+    let r = ltb-true (c .row) (rowsOn g) (b .0) in
+    let l = ltb-true (c .column) (rowLong g (c .row)) (b .1) in
+    let same : pointOn g c ≡ k .0 = ap (λ (x : GridPoint). x .0) (h .1) in
+    record { row = r; column = l; is = same; below = subst (λ (x : ℕ). x < pointsOn g) same (point-lt g c r l) }
 
 -- the points of the first rows
 abbrev pub rowsTo : Shape → ℕ → ℕ

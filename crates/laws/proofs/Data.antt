@@ -4,18 +4,19 @@ use Prim.Native.Nat.{ℕ, _+_, _-_, _*_, _%_, _≤_, _<_}
 use mathlib.Core.Path.{_≡_, refl, _∙_, ap}
 use mathlib.Core.List.{List}
 use native.Mathlib.Omega.{arith}
+use borrow.Author.Tests.{ltb-false}
 use lib.ListN.{length, getD}
 use Rattle.bits.specs.Bits.{bitsIn, run, runs, Wide}
 use Rattle.bits.proofs.Runs.{bitsIn-bits, next-le}
 use Rattle.bits.proofs.Trip.{length-runs, wide-runs, getD-runs}
-use Rattle.rules.specs.Bounds.{bdsHead}
+use Rattle.rules.specs.Bounds.{messageLeast, messageMost, bitsMost, bdsHead}
 use Rattle.rules.specs.Numbers.{octet}
-use Rattle.rules.specs.Places.{placesOf}
+use Rattle.rules.specs.Places.{placesOf, sizeBad}
 use Rattle.rules.specs.Bitmap.{Lent}
-use Rattle.rules.specs.Values.{lengthBad, valuesAt}
+use Rattle.rules.specs.Values.{packingFaults, lengthBad, valuesAt}
 use Rattle.rules.specs.Reading.{presentCount, packingIn, dataIn}
 use Rattle.laws.specs.Taken.{Taken}
-use Rattle.laws.proofs.Rows.{is-eq}
+use Rattle.laws.proofs.Rows.{none-of, is-eq, inside}
 use Rattle.laws.proofs.Judged.{judged}
 
 module _ (s : List ℕ) (lent : Lent) where
@@ -27,6 +28,15 @@ module _ (s : List ℕ) (lent : Lent) where
 
   abbrev m : ℕ
   m = presentCount s lent
+
+  -- N is small, and so is the message
+  pub data-narrow : Taken s lent → bits ≤ bitsMost
+  unfolding packingFaults
+  data-narrow t = ltb-false bitsMost bits (none-of (packingFaults (packingIn s)) (judged s lent t .packing) .1 .0)
+
+  pub size-most : Taken s lent → length s ≤ messageMost
+  unfolding sizeBad
+  size-most t = inside messageLeast messageMost (length s) (judged s lent t .size) .1
 
   pub data-runs : dataIn s lent ≡ runs (bitsIn 8 s) dataPlace bits m
   unfolding dataIn valuesAt

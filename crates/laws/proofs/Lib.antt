@@ -16,6 +16,7 @@ pub mod Judged
 pub mod Sections
 pub mod Bounded
 pub mod Data
+pub mod Cursors
 -- what the writer's parts are
 pub mod Lengths
 pub mod Gathered

@@ -1,6 +1,6 @@
 -- The chart's cells: the grid point at a place inside the chart is one of the grid's; cells and rows written one after
 -- another, by the laws of written text; and the room that they take, by the laws of the chart's rows.
-use mathlib.Core.Path.{_≡_, sym, ap, subst}
+use mathlib.Core.Path.{_≡_, sym, ap, subst, _∙_}
 use mathlib.Core.Bool.{Bool, true, false, cond}
 use Prim.Native.Nat.{ℕ, zero, suc, _+_, _*_, _≤_, _<_}
 use native.Mathlib.Omega.{arith}
@@ -8,7 +8,7 @@ use borrow.Author.Tests.{lt-ltb}
 use mathlib.Core.List.{List, [], _∷_}
 use lib.Dec.{eqb}
 use lib.ListN.{length, getD, length-append}
-use Rattle.laws.proofs.Charts.{point-lt, rowsTo, rows-to}
+use Rattle.laws.proofs.Charts.{found, rowsTo, rows-to}
 use Rattle.rules.specs.declared.{Shape.Shape, GridPoint.GridPoint, Spot.Spot, Pointed.Pointed, Pointed.the-variants.At}
 use Rattle.rules.specs.declared.{Pointed.the-variants.Off}
 use Rattle.rules.specs.Bitmap.{markOf, valueOf}
@@ -24,11 +24,7 @@ module _ (g : Shape) (c : Spot) (hr : c .row < rowsOn g) (hc : c .column < rowLo
   inside = rw (lt-ltb (c .row) (rowsOn g) hr, lt-ltb (c .column) (rowLong g (c .row)) hc)
 
   pub point-at : (p : Pointed) (q : GridPoint) → p ≡ pointed g c → p ≡ At q → (q .0 ≡ pointOn g c) × (q .0 < pointsOn g)
-  point-at p q e f =
-      let i = inside in
-      let same : q ≡ record { 0 = pointOn g c } = cc in
-      let is : q .0 ≡ pointOn g c = ap (λ (x : GridPoint). x .0) same in
-      (is, subst (λ (x : ℕ). x < pointsOn g) (sym is) (point-lt g c hr hc))
+  point-at p q e f = let h = found g c q (sym e ∙ f) in (sym (h .is), h .below)
 
   pub never-off : (p : Pointed) → p ≡ pointed g c → p ≡ Off → ⊥
   never-off p e f =

@@ -1,11 +1,13 @@
 -- What a header says of its message: where its refusal is 0, each field is the message's own; by the definition's two
 -- cases.
-use mathlib.Core.Path.{_≡_, refl, sym, ap, _∙_}
+use mathlib.Core.Path.{_≡_, refl, sym, ap, _∙_, subst}
 use mathlib.Core.Bool.{Bool, true, false, cond}
 use mathlib.Core.List.{List}
-use Prim.Native.Nat.{ℕ}
+use Prim.Native.Nat.{ℕ, _≤_}
+use lib.Dec.{T}
 use borrow.Author.Tests.{eq-eqb, ne-eqb}
-use Rattle.rules.specs.declared.{Refusal.Refusal, Header.Header}
+use Rattle.rules.specs.declared.{Refusal.Refusal, Packing.Packing, Header.Header}
+use Rattle.rules.specs.Bounds.{bitsMost}
 use Rattle.rules.specs.Table.{refusal, accepted}
 use Rattle.rules.specs.Places.{placesOf}
 use Rattle.rules.specs.Grid.{theGrid}
@@ -13,6 +15,7 @@ use Rattle.rules.specs.Bitmap.{Lent}
 use Rattle.rules.specs.Reading.{parsedOf, foundBy, foundIn, refusedBy, ownRefusal, answerBy, headerOf, gridOf, bitmapIn}
 use Rattle.rules.specs.Reading.{pointsIn, presentCount, packingIn, scaleIn}
 use Rattle.laws.proofs.Judged.{own-zero}
+use Rattle.laws.proofs.Data.{data-narrow}
 
 -- the refusal in a header is the message's own
 pub refusal-by : (b : Bool) (r : Refusal) (x : Header) → x .refusal ≡ refusal 0 → (accepted r ≡ true → r ≡ refusal 0)
@@ -66,3 +69,8 @@ module _ (s : List ℕ) (lent : Lent) (h : Header) (e : h ≡ headerOf s lent) w
     pub scale-of : h .scale ≡ scaleIn s
     unfolding foundIn foundBy parsedOf scaleIn
     scale-of = ap (λ (x : Header). x .scale) said
+
+    -- N is small
+    pub narrow : h .packing .bits ≤ bitsMost
+    narrow =
+        subst (λ (x : Packing). x .bits ≤ bitsMost) (sym packing-of) (data-narrow s lent (subst T (sym taken) tt))

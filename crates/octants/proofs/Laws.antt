@@ -1,21 +1,20 @@
 -- The counts of an octant: the same from the other end, none past the last row, and how many they are; all computed.
-use Prim.Native.Nat.{ℕ, _-_, _<_, _≤_}
-use mathlib.Core.Bool.{Bool, true, false, not, _&&_}
-use mathlib.Core.List.{List}
-use mathlib.Core.Path.{_≡_, refl, sym, ap, _∙_}
+use Prim.Native.Nat.{ℕ, _+_, _-_, _<_, _≤_}
+use mathlib.Core.Bool.{Bool, not}
+use mathlib.Core.List.{List, [], _∷_}
+use mathlib.Core.Path.{_≡_, refl, sym, _∙_}
 use native.Mathlib.Omega.{arith}
-use borrow.Author.Tests.{ltb-true, ltb-false}
-use lib.Dec.{ltb, eqb}
+use lib.Dec.{eqb}
 use lib.ListN.{length, getD, List·getD-eq-default}
 use Rattle.bits.specs.Tables.{anyBelow}
 use Rattle.bits.proofs.Below.{none-below}
-use Rattle.bits.proofs.Tests.{both}
 use Rattle.rules.specs.declared.{Start.Start, Start.the-variants.Equator, Start.the-variants.Pole}
 use Rattle.rules.specs.declared.{Start.the-variants.Neither, Spot.Spot}
 use Rattle.rules.specs.Bounds.{octantRows, octantPoints}
 use Rattle.rules.specs.Counts.{total, rowOf, inRow, beforeRow, fromEquator, countsOf}
 use Rattle.laws.proofs.Rows.{is-eq}
-use Rattle.laws.proofs.Counts.{before-past}
+use Rattle.laws.proofs.Counts.{before-past, before-most, before-all}
+use Rattle.laws.proofs.Grids.{octant-few}
 
 unlike : ℕ → Bool
 unlike i = not (eqb (getD fromEquator (octantRows - 1 - i) 0) (getD (countsOf Pole) i 0))
@@ -47,20 +46,42 @@ pub spot-is : (counts : List ℕ) (k j left : ℕ) → (rowOf counts k ≡ j) ×
     → _≡_ {A = Spot} (record { row = j; column = left }) (record { row = rowOf counts k; column = inRow counts k })
 spot-is counts k j left p = λ i. record { row = sym (p .0) i; column = sym (p .1) i }
 
--- the sum of the counts where the walk down the rows ends: at row j, or past the last row
-pub before-done : (counts : List ℕ) (j i n : ℕ) → n ≡ length counts → i ≤ length counts → i ≤ j
-    → (ltb i j && ltb i n) ≡ false
-    → beforeRow counts i ≡ beforeRow counts j
-before-done counts j i n e l m h = go (ltb i j) refl h
-  where
-    go : (t : Bool) → ltb i j ≡ t → (t && ltb i n) ≡ false → beforeRow counts i ≡ beforeRow counts j
-    go false d h =
-        let same : i ≡ j = omega (arith, ltb-false i j d, m) in
-        ap (beforeRow counts) same
-    go true d h =
-        let last : i ≡ length counts = omega (arith, ltb-false i n h, l, e) in
-        ap (beforeRow counts) last ∙ sym (before-past counts j (omega (arith, ltb-true i j d, last)))
+-- the sums of the counts before each row: one by one, and from the other end
+abbrev pub sums : List ℕ
+sums =
+    0 ∷ 73 ∷ 146 ∷ 219 ∷ 292 ∷ 365 ∷ 438 ∷ 511 ∷ 584 ∷ 656 ∷ 728 ∷ 800 ∷ 871 ∷ 942 ∷ 1013 ∷ 1083
+    ∷ 1153 ∷ 1222 ∷ 1291 ∷ 1359 ∷ 1426 ∷ 1493 ∷ 1559 ∷ 1624 ∷ 1689 ∷ 1753 ∷ 1816 ∷ 1878 ∷ 1939 ∷ 1999 ∷ 2059 ∷ 2118
+    ∷ 2176 ∷ 2233 ∷ 2289 ∷ 2344 ∷ 2398 ∷ 2450 ∷ 2501 ∷ 2551 ∷ 2600 ∷ 2648 ∷ 2695 ∷ 2740 ∷ 2784 ∷ 2827 ∷ 2869 ∷ 2909
+    ∷ 2948 ∷ 2986 ∷ 3022 ∷ 3057 ∷ 3090 ∷ 3122 ∷ 3152 ∷ 3181 ∷ 3209 ∷ 3235 ∷ 3260 ∷ 3283 ∷ 3305 ∷ 3325 ∷ 3344 ∷ 3361
+    ∷ 3377 ∷ 3391 ∷ 3403 ∷ 3414 ∷ 3423 ∷ 3431 ∷ 3437 ∷ 3442 ∷ 3445 ∷ 3447 ∷ []
 
-pub both-tests : (a b c d : ℕ) → (ltb a b && ltb c d) ≡ true → (a < b) × (c < d)
-both-tests a b c d e =
-    (ltb-true a b (both (ltb a b) (ltb c d) e .0), ltb-true c d (both (ltb a b) (ltb c d) e .1))
+unsummed : ℕ → Bool
+unsummed i = not (eqb (getD sums i 0) (beforeRow fromEquator i))
+
+pub sum-is : (i : ℕ) → i ≤ octantRows → getD sums i 0 ≡ beforeRow fromEquator i
+unfolding unsummed anyBelow fromEquator beforeRow
+sum-is i h = is-eq _ _ (none-below unsummed (octantRows + 1) refl i (omega arith))
+
+unturned : ℕ → Bool
+unturned i = not (eqb (octantPoints - beforeRow fromEquator (octantRows - i)) (beforeRow (countsOf Pole) i))
+
+pub before-pole : (i : ℕ) → i ≤ octantRows
+    → octantPoints - beforeRow fromEquator (octantRows - i) ≡ beforeRow (countsOf Pole) i
+unfolding unturned anyBelow countsOf fromEquator beforeRow
+before-pole i h = is-eq _ _ (none-below unturned (octantRows + 1) refl i (omega arith))
+
+pub before-equator : (i : ℕ) → beforeRow fromEquator i ≡ beforeRow (countsOf Equator) i
+unfolding countsOf
+before-equator i = refl
+
+pub before-neither : (i : ℕ) → 0 ≡ beforeRow (countsOf Neither) i
+unfolding countsOf beforeRow
+before-neither i = refl
+
+pub before-few : (i : ℕ) → beforeRow fromEquator i ≤ octantPoints
+unfolding countsOf
+before-few i = omega (arith, before-most fromEquator i, octant-few Equator)
+
+-- past the last row
+pub before-last : (f : Start) (j : ℕ) → octantRows ≤ j → total (countsOf f) ≡ beforeRow (countsOf f) j
+before-last f j h = sym (before-past (countsOf f) j (omega (arith, rows-few f, h)) ∙ before-all (countsOf f))

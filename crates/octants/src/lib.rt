@@ -2,7 +2,7 @@
 // and position of a point, and the points before a row. Rows are in message order. All total; what is counted by
 // Neither has no rows.
 ghost use mathlib.Core.Path.{_≡_};
-ghost use Prim.Native.Nat.{_<_};
+ghost use Prim.Native.Nat.{_<_, _≤_};
 ghost use lib.ListN.{length, getD};
 ghost use Rattle.rules.specs.Bounds.{octantRows};
 ghost use Rattle.rules.specs.Counts.{total, rowOf, inRow, beforeRow, fromEquator, countsOf};
@@ -88,6 +88,85 @@ const FROM_EQUATOR: [u8; 73] = [
     2,
 ];
 
+// The points before each of its rows, and all of them: sums of that table, so that a row far on costs no more than the
+// first.
+const BEFORE_EQUATOR: [u16; 74] = [
+    0,
+    73,
+    146,
+    219,
+    292,
+    365,
+    438,
+    511,
+    584,
+    656,
+    728,
+    800,
+    871,
+    942,
+    1013,
+    1083,
+    1153,
+    1222,
+    1291,
+    1359,
+    1426,
+    1493,
+    1559,
+    1624,
+    1689,
+    1753,
+    1816,
+    1878,
+    1939,
+    1999,
+    2059,
+    2118,
+    2176,
+    2233,
+    2289,
+    2344,
+    2398,
+    2450,
+    2501,
+    2551,
+    2600,
+    2648,
+    2695,
+    2740,
+    2784,
+    2827,
+    2869,
+    2909,
+    2948,
+    2986,
+    3022,
+    3057,
+    3090,
+    3122,
+    3152,
+    3181,
+    3209,
+    3235,
+    3260,
+    3283,
+    3305,
+    3325,
+    3344,
+    3361,
+    3377,
+    3391,
+    3403,
+    3414,
+    3423,
+    3431,
+    3437,
+    3442,
+    3445,
+    3447,
+];
+
 // The points in row i of the table.
 fn from_equator(i: usize) -> u8
     requires { ⌜ i < octantRows ⌝ }
@@ -156,16 +235,24 @@ pub fn scanned(start: Start, k: u32) -> Spot
     }
 }
 
-// How many points stand before row j.
+// The points before row i of the table, and before its end.
+fn before_equator(i: usize) -> u16
+    requires { ⌜ i ≤ octantRows ⌝ }
+    ensures { λ r. ⌜ r ≡ beforeRow fromEquator i ⌝ }
+{
+    BEFORE_EQUATOR[i]
+}
+
+// How many points stand before row j; past the last row all do. From the pole these are the rows at the table's end.
 pub fn before_row(start: Start, j: u32) -> u32
     ensures { λ r. ⌜ r ≡ beforeRow (countsOf start) j ⌝ }
 {
-    let high = rows(start);
-    let mut sum = 0u32;
-    let mut i = 0u32;
-    while (i < j) & (i < high) {
-        sum += count(start, i);
-        i += 1;
+    if OCTANT_ROWS <= j {
+        return points(start);
     }
-    sum
+    match start {
+        Start::Equator => before_equator(j as usize) as u32,
+        Start::Pole => OCTANT_POINTS - before_equator((OCTANT_ROWS - j) as usize) as u32,
+        Start::Neither => 0,
+    }
 }

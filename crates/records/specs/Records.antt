@@ -6,10 +6,13 @@ use Rattle.rules.specs.declared.{Refusal.Refusal, Written.Written, Display.Disp
 use Rattle.rules.specs.declared.{Bitmap.the-variants.Without, Bitmap.the-variants.Carried, Bitmap.the-variants.Stored}
 use Rattle.rules.specs.declared.{Header.Header, Charted.Charted, Charted.the-variants.On, Charted.the-variants.Off}
 use Rattle.rules.specs.declared.{Pointed.Pointed, Pointed.the-variants.At, Pointed.the-variants.Off as Nowhere}
+use Rattle.rules.specs.declared.{Indexed.Indexed, UnderCursor.UnderCursor, UnderCursor.the-variants.Refused}
+use Rattle.rules.specs.declared.{UnderCursor.the-variants.Absent, UnderCursor.the-variants.Value}
 use Rattle.rules.specs.Figures.{figuresOf}
 use Rattle.records.specs.declared.{PartRecord.PartRecord, GridRecord.GridRecord, HeaderRecord.HeaderRecord}
 use Rattle.records.specs.declared.{PlaceRecord.PlaceRecord, PointRecord.PointRecord, DisplayRecord.DisplayRecord}
 use Rattle.records.specs.declared.{WrittenRecord.WrittenRecord, CheckRecord.CheckRecord}
+use Rattle.records.specs.declared.{IndexedRecord.IndexedRecord, CursorRecord.CursorRecord}
 
 -- a bitmap's kind and, where it is a stored one, its number
 abbrev pub bitmapKind : Bitmap → ℕ
@@ -108,3 +111,17 @@ writtenRecord w = record { reply = w .refusal .number; len = w .len }
 
 abbrev pub checkRecord : Refusal → CheckRecord
 checkRecord r = record { reply = r .number; section = r .section; place = r .place }
+
+abbrev pub indexedRecord : Indexed → IndexedRecord
+indexedRecord i = record {
+  reply = i .refusal .number;
+  section = i .refusal .section;
+  place = i .refusal .place;
+  entries = i .entries;
+}
+
+-- what a place has under the cursor: 1 and its value, 2 where it is absent, 0 where it is refused
+abbrev pub cursorRecord : UnderCursor → CursorRecord
+cursorRecord (Refused r) = record { reply = r .number; section = r .section; place = r .place; kind = 0; value = 0 }
+cursorRecord Absent = record { reply = 0; section = 0; place = 0; kind = 2; value = 0 }
+cursorRecord (Value x) = record { reply = 0; section = 0; place = 0; kind = 1; value = x }

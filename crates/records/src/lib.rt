@@ -3,6 +3,7 @@
 ghost use mathlib.Core.Path.{_≡_};
 ghost use Rattle.records.specs.Records.{bitmapKind, bitmapNumber, partRecord, gridRecord, headerRecord};
 ghost use Rattle.records.specs.Records.{placeRecord, pointRecord, displayRecord, writtenRecord, checkRecord};
+ghost use Rattle.records.specs.Records.{indexedRecord, cursorRecord};
 
 mod forms; // forms.rt: the record that comes in
 
@@ -16,10 +17,12 @@ use rules::Charted;
 use rules::Display;
 use rules::Grid;
 use rules::Header;
+use rules::Indexed;
 use rules::Part;
 use rules::Pointed;
 use rules::Refusal;
 use rules::Signed;
+use rules::UnderCursor;
 use rules::Written;
 
 // A part of the message (stored 0) or of the lent bitmap (stored 1).
@@ -115,6 +118,23 @@ pub struct CheckRecord {
     pub reply: u32,
     pub section: u32,
     pub place: u32,
+}
+
+#[repr(C)]
+pub struct IndexedRecord {
+    pub reply: u32,
+    pub section: u32,
+    pub place: u32,
+    pub entries: u32,
+}
+
+#[repr(C)]
+pub struct CursorRecord {
+    pub reply: u32,
+    pub section: u32,
+    pub place: u32,
+    pub kind: u32,
+    pub value: u32,
 }
 
 // A bitmap's kind as a number.
@@ -280,5 +300,46 @@ pub fn check_record(refusal: Refusal) -> CheckRecord
         reply: refusal.number,
         section: refusal.section,
         place: refusal.place,
+    }
+}
+
+// The filling's reply and what it tells, and how many entries it took.
+pub fn indexed_record(indexed: Indexed) -> IndexedRecord
+    ensures { λ r. ⌜ r ≡ indexedRecord indexed ⌝ }
+{
+    IndexedRecord {
+        reply: indexed.refusal.number,
+        section: indexed.refusal.section,
+        place: indexed.refusal.place,
+        entries: indexed.entries,
+    }
+}
+
+// A value, its absence, or the reply and what it tells.
+pub fn cursor_record(under: UnderCursor) -> CursorRecord
+    ensures { λ r. ⌜ r ≡ cursorRecord under ⌝ }
+{
+    match under {
+        UnderCursor::Refused(why) => CursorRecord {
+            reply: why.number,
+            section: why.section,
+            place: why.place,
+            kind: 0,
+            value: 0,
+        },
+        UnderCursor::Absent => CursorRecord {
+            reply: 0,
+            section: 0,
+            place: 0,
+            kind: 2,
+            value: 0,
+        },
+        UnderCursor::Value(x) => CursorRecord {
+            reply: 0,
+            section: 0,
+            place: 0,
+            kind: 1,
+            value: x,
+        },
     }
 }

@@ -9,3 +9,4 @@ pub mod Octants
 pub mod Projections
 pub mod Misreadings
 pub mod Catalogue
+pub mod Cursor

@@ -64,6 +64,10 @@ latitudeMost = 90000
 abbrev pub longitudeMost : ℕ
 longitudeMost = 360000
 
+-- R-6: "each group of 256 grid points"
+abbrev pub groupLong : ℕ
+groupLong = 256
+
 -- bits per value N
 abbrev pub bitsMost : ℕ
 bitsMost = 24

@@ -1,5 +1,5 @@
 -- The meaning of document 01, a file for each of its parts, in its order, with R-1 to R-4 of document 02 where they
--- amend them.
+-- amend them, and R-6 in a file of its own (Cursor).
 -- How names end (docs/GLOSSARY.md has the exceptions). At: read at a place of the octets, or at a point. In: what a
 -- message says, of its octets and the lent bitmap. Of: the answer of a public function (headerOf, writeOf), or of one
 -- thing another that follows from it. By: as the first argument decides. For: what the writer makes for the parts
@@ -23,6 +23,7 @@ pub mod Bitmap
 pub mod Points
 pub mod Values
 pub mod Reading
+pub mod Cursor
 pub mod Display
 pub mod Writing
 pub mod RoundTrip

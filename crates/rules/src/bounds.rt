@@ -46,6 +46,9 @@ pub const LONGITUDE_MOST: i32 = 360000;
 // What three octets hold at most.
 pub const DISTANCE_MOST: u32 = 16777215;
 
+// Grid points in a group of the index for a cursor; the last group may have fewer.
+pub const GROUP_LONG: u32 = 256;
+
 // Bits per value N.
 pub const BITS_MOST: u8 = 24;
 

@@ -1,5 +1,5 @@
-// The records that every part of the codec shares, and, in specs/, what document 01 means, as R-1 to R-4 of document
-// 02 amend it. All records go by value; a refused answer has zero in every other field.
+// The records that every part of the codec shares, and, in specs/, what document 01 means, as R-1 to R-4 and R-6 of
+// document 02 amend it. All records go by value; a refused answer has zero in every other field.
 
 pub mod bounds;
 
@@ -249,4 +249,17 @@ pub enum Charted {
 pub enum Pointed {
     At(GridPoint),
     Off,
+}
+
+// What filling an index answers: how many entries it took.
+pub struct Indexed {
+    pub refusal: Refusal,
+    pub entries: u32,
+}
+
+// What a place of the chart has under the cursor: the value of its point, or that it is absent.
+pub enum UnderCursor {
+    Refused(Refusal),
+    Absent,
+    Value(u32),
 }

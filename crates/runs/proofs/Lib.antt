@@ -1,3 +1,4 @@
 pub mod Bits
 pub mod Lists
 pub mod Parts
+pub mod Tallies

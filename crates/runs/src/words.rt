@@ -2,7 +2,8 @@
 ghost use mathlib.Core.Path.{_≡_};
 ghost use Prim.Native.Nat.{_+_, _*_, _/_, _%_, _^_, _<_, _≤_};
 ghost use lib.ListN.{length};
-ghost use Rattle.bits.specs.Bits.{bitsIn, run};
+ghost use lib.Count.{ones};
+ghost use Rattle.bits.specs.Bits.{bitsIn, run, count};
 
 // An octet, to be part of a number.
 pub(crate) fn wide(x: u8) -> u64
@@ -25,6 +26,23 @@ pub(crate) fn word8(s: &[u8], k: usize) -> u64
     ensures { λ r. ⌜ r ≡ run (bitsIn 8 (now (s .entry))) (k * 8) 64 ⌝ }
 {
     word(s, k) * 4294967296 + word(s, k + 4)
+}
+
+// The number that the four octets from octet k on make the other way round, the last one first, as the machine reads
+// them: its ones are theirs, which no order changes.
+pub(crate) fn reversed(s: &[u8], k: usize) -> u64
+    requires { ⌜ k + 4 ≤ length (now s) ⌝ }
+    ensures { λ r. ⌜ (ones r ≡ count (bitsIn 8 (now (s .entry))) (k * 8) 32) × (r < 2 ^ 32) ⌝ }
+{
+    ((wide(s[k + 3]) * 256 + wide(s[k + 2])) * 256 + wide(s[k + 1])) * 256 + wide(s[k])
+}
+
+// Eight octets so.
+pub(crate) fn reversed8(s: &[u8], k: usize) -> u64
+    requires { ⌜ k + 8 ≤ length (now s) ⌝ }
+    ensures { λ r. ⌜ ones r ≡ count (bitsIn 8 (now (s .entry))) (k * 8) 64 ⌝ }
+{
+    reversed(s, k + 4) * 4294967296 + reversed(s, k)
 }
 
 // The number that the first c bits of the eight octets from octet k on make.

@@ -7,25 +7,25 @@ use mathlib.Core.List.{List, _++_}
 use native.Mathlib.Nat.{zero-mul}
 use native.Mathlib.Numerals.{add-one}
 use native.Mathlib.Omega.{arith}
-use borrow.Author.Tests.{ltb-false, le-leb}
+use borrow.Author.Tests.{le-leb}
 use lib.ListN.{length, drop}
 use Rattle.bits.specs.Bits.{bitsIn, run, runs}
 use Rattle.bits.proofs.Runs.{next, next-le}
-use Rattle.rules.specs.Bounds.{messageLeast, messageMost, bitsMost, bdsHead}
+use Rattle.rules.specs.Bounds.{bitsMost, bdsHead}
 use Rattle.rules.specs.Numbers.{octet}
-use Rattle.rules.specs.Places.{after, placesOf, sizeBad}
+use Rattle.rules.specs.Places.{after, placesOf}
 use Rattle.rules.specs.Bitmap.{Lent}
-use Rattle.rules.specs.Values.{packingFaults, lengthBad}
+use Rattle.rules.specs.Values.{lengthBad}
 use Rattle.rules.specs.Reading.{presentCount, packingIn, dataIn}
 use Rattle.runs.specs.Take.{fetched, unpacked}
 use Rattle.runs.proofs.Lists.{unpacked-fits}
 use Rattle.bitreader.specs.Taken.{placeMost, reached, takenAt, dataPlace}
 use Rattle.bitreader.proofs.Places.{reached-sum, all-reached, data-begins}
 use Rattle.laws.specs.Taken.{Taken}
-use Rattle.laws.proofs.Rows.{none-of, is-eq, inside}
+use Rattle.laws.proofs.Rows.{is-eq, inside}
 use Rattle.laws.proofs.Judged.{judged}
 use Rattle.laws.proofs.Sections.{reads-inside}
-use Rattle.laws.proofs.Data.{data-at, data-runs}
+use Rattle.laws.proofs.Data.{data-narrow, size-most, data-at, data-runs}
 use Rattle.theorems.specs.Turns.{placeAfter, TakenInTurn}
 
 place-is : (s : List ℕ) (at n m k : ℕ) → k ≤ m → at + m * n ≤ placeMost → placeAfter s at n k ≡ at + k * n
@@ -56,8 +56,7 @@ module _ (s : List ℕ) (lent : Lent) (t : Taken s lent) where
   first = (start + bdsHead) * 8
 
   narrow : bits ≤ bitsMost
-  unfolding packingFaults
-  narrow = ltb-false bitsMost bits (none-of (packingFaults (packingIn s)) (judged s lent t .packing) .1 .0)
+  narrow = data-narrow s lent t
 
   -- the data end in their section, and it in the message
   ends : first + m * bits ≤ after (placesOf s .bds) * 8
@@ -71,13 +70,7 @@ module _ (s : List ℕ) (lent : Lent) (t : Taken s lent) where
       )
 
   early : after (placesOf s .bds) * 8 ≤ placeMost
-  unfolding sizeBad
-  early =
-      omega (
-        arith,
-        reads-inside s lent t .end,
-        inside messageLeast messageMost (length s) (judged s lent t .size) .1,
-      )
+  early = omega (arith, reads-inside s lent t .end, size-most s lent t)
 
   begins : dataPlace start ≡ first
   begins = data-begins start (omega (arith, ends, early))

@@ -22,6 +22,7 @@ pub mod Offered
 pub mod Reoffered
 pub mod Points
 pub mod InTurn
+pub mod Cursors
 pub mod Told
 pub mod ReadBack
 pub mod Returned

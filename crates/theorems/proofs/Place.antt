@@ -11,8 +11,7 @@ use borrow.Author.Tests.{lt-ltb, ltb-true}
 use lib.Dec.{ltb}
 use lib.ListN.{length, getD, replicate, length-replicate, getD-replicate}
 use Rattle.bits.proofs.Products.{left-positive}
-use Rattle.bits.proofs.Tests.{both}
-use Rattle.rules.specs.declared.{Rectangle.Rectangle, Thinning.Thinning, Shape.Shape, Shape.the-variants.Even}
+use Rattle.rules.specs.declared.{Shape.Shape, Shape.the-variants.Even}
 use Rattle.rules.specs.declared.{Shape.the-variants.Uneven, GridPoint.GridPoint, Spot.Spot, Charted.the-variants.On}
 use Rattle.rules.specs.declared.{Charted.the-variants.Off, Pointed.the-variants.At, Pointed.the-variants.Off as Nowhere}
 use Rattle.rules.specs.Counts.{total, rowOf, inRow, beforeRow, countsOf}
@@ -20,7 +19,7 @@ use Rattle.rules.specs.Chart.{west, north, byColumn, turned, spotOf, pointOf, s
 use Rattle.rules.specs.Chart.{rowsOn, rowLong, spotOn, pointOn, charted, pointed}
 use Rattle.theorems.specs.Reads.{ChartDrawn, PlacePoint, PlacePointAnswers, EqualCounts}
 use Rattle.laws.proofs.Counts.{parted, joined}
-use Rattle.laws.proofs.Charts.{turned-lt, turned-back, row-even, row-among}
+use Rattle.laws.proofs.Charts.{turned-lt, turned-back, row-even, row-among, found}
 
 -- lines of these counts, t and u whether lines and positions are turned
 module _ (counts : List ℕ) (t u : Bool) where
@@ -260,10 +259,6 @@ on-is : (b : Bool) (x c : Spot) → cond b (On x) Off ≡ On c → (b ≡ true) 
 on-is true x c e = (refl, cc)
 on-is false x c e = absurd (let z : _≡_ {A = ℕ} 0 1 = cc in omega arith)
 
-at-is : (b : Bool) (x k : GridPoint) → cond b (At x) Nowhere ≡ At k → (b ≡ true) × (x ≡ k)
-at-is true x k e = (refl, cc)
-at-is false x k e = absurd (let z : _≡_ {A = ℕ} 0 1 = cc in omega arith)
-
 module _ (g : Shape) (k : GridPoint) (c : Spot) where
   on-chart : spotOn g (k .0) ≡ c → k .0 < pointsOn g → charted g k ≡ On c
   unfolding charted
@@ -286,13 +281,10 @@ module _ (g : Shape) (k : GridPoint) (c : Spot) where
       (subst (λ (x : Spot). x .column < rowLong g (x .row)) (h .1) (q .1))
 
   from : pointed g c ≡ At k → charted g k ≡ On c
-  unfolding pointed
   from e =
-      let h = at-is (ltb (c .row) (rowsOn g) && ltb (c .column) (rowLong g (c .row))) (record { 0 = pointOn g c }) k e in
-      let b = both (ltb (c .row) (rowsOn g)) (ltb (c .column) (rowLong g (c .row))) (h .0) in
-      let q = place-point g .1 c (ltb-true (c .row) (rowsOn g) (b .0)) (ltb-true (c .column) (rowLong g (c .row)) (b .1)) in
-      let same : pointOn g c ≡ k .0 = ap (λ (x : GridPoint). x .0) (h .1) in
-      on-chart (ap (spotOn g) (sym same) ∙ q .1) (subst (λ (x : ℕ). x < pointsOn g) same (q .0))
+      let f = found g c k e in
+      let q = place-point g .1 c (f .row) (f .column) in
+      on-chart (ap (spotOn g) (sym (f .is)) ∙ q .1) (f .below)
 
 pub place-point-answers : PlacePointAnswers
 place-point-answers g k c = (to g k c, from g k c)

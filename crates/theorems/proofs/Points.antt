@@ -1,30 +1,26 @@
 -- Demand 2 at every point: the value that reading hands out at a present point stands among the data by the count of
 -- ones before it, and is 0 at an absent one; and the k-th of the data at its bit place. From the definitions.
-use Prim.Native.Nat.{ℕ, zero, suc, _+_, _-_, _*_, _%_, _≤_, _<_}
+use Prim.Native.Nat.{ℕ, _+_, _-_, _<_}
 use mathlib.Core.Bool.{Bool, cond}
-use mathlib.Core.Path.{_≡_, refl, _∙_, ap}
+use mathlib.Core.Path.{_≡_, sym, _∙_, ap}
 use mathlib.Core.List.{List}
 use native.Mathlib.Omega.{arith}
 use borrow.Author.Tests.{lt-ltb, eq-eqb, ne-eqb}
 use lib.Dec.{eqb}
 use lib.ListN.{getD}
 use Rattle.bits.specs.Bits.{bitsIn, count}
-use Rattle.bits.proofs.Runs.{next-le}
-use Rattle.bits.proofs.Trip.{getD-runs}
+use Rattle.bits.proofs.Ones.{count-ones}
 use Rattle.rules.specs.declared.{Bitmap.Bitmap, Bitmap.the-variants.Without}
 use Rattle.rules.specs.Table.{accepted}
-use Rattle.rules.specs.Bounds.{bdsHead}
 use Rattle.rules.specs.Numbers.{octet}
-use Rattle.rules.specs.Places.{placesOf}
 use Rattle.rules.specs.Bitmap.{Lent, bitmapOctets, bitmapGiven, presentBy}
 use Rattle.rules.specs.Points.{numbered, absent, outside, dataNumber, valueAt, scattered}
-use Rattle.rules.specs.Values.{lengthBad, valuesAt}
-use Rattle.rules.specs.Reading.{ownRefusal, bitmapIn, inForceIn, pointsIn, presentIn, presentCount, packingIn, dataIn}
+use Rattle.rules.specs.Reading.{ownRefusal, bitmapIn, inForceIn, pointsIn, presentIn, presentCount, dataIn}
 use Rattle.rules.specs.Reading.{valuesIn, marksIn, foundBy, foundIn, refusedBy, answerBy, headerOf, readRefusal}
 use Rattle.rules.specs.Reading.{valuesAfter, marksAfter, numberingOf}
 use Rattle.laws.specs.Taken.{Taken}
 use Rattle.theorems.specs.Reads.{OwnNumber, ValueAtPoint, PackedSimply, ReadKeeps, PresentCounted}
-use Rattle.laws.proofs.Rows.{is-true, is-eq}
+use Rattle.laws.proofs.Rows.{is-true}
 use Rattle.theorems.proofs.Lists.{filled-at, filled-after}
 use Rattle.laws.proofs.Judged.{read-taken}
 use Rattle.laws.proofs.Data.{data-at, data-inside}
@@ -75,21 +71,13 @@ all-ones : (m : Bitmap) (o : List ℕ) → m ≡ Without → (i : ℕ) → prese
 unfolding presentBy
 all-ones m o e i = ap (λ (x : Bitmap). cond (bitmapGiven x) (bitsIn 8 o i) 1) e
 
-ones-count : (p : ℕ → ℕ) → ((i : ℕ) → p i ≡ 1) → (n : ℕ) → count p 0 n ≡ n
-unfolding count
-ones-count p h zero = refl
-ones-count p h (suc n) =
-    let k : count p 0 n ≡ n = ones-count p h n in
-    let l : p (0 + n) ≡ 1 = h (0 + n) in
-    omega arith
-
 pub own-number : OwnNumber
 unfolding presentIn
 own-number s lent t none i l =
     let p = presentIn s lent in
     let each = all-ones (bitmapIn s) (bitmapOctets s (lent .octets) (inForceIn s)) none in
     numbering s lent t i l ∙ ap (λ (b : Bool). cond b (numbered (count p 0 i)) absent) (eq-eqb (p i) 1 (each i))
-    ∙ ap numbered (ones-count p each i)
+    ∙ ap numbered (sym (count-ones p 0 i (λ j k. each (0 + j))))
 
 pub value-at-point : ValueAtPoint
 unfolding valuesAfter marksAfter valuesIn marksIn scattered

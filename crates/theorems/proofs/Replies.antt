@@ -11,12 +11,13 @@ use borrow.Author.Tests.{eqb-false}
 use lib.Dec.{T}
 use lib.ListN.{length, take, drop}
 use lib.Seq.{take-append-seam, drop-append-seam}
-use Rattle.rules.specs.declared.{Refusal.Refusal, Form.Form}
+use Rattle.rules.specs.declared.{Refusal.Refusal, Form.Form, Spot.Spot}
 use Rattle.rules.specs.Table.{Row, given, refusal, accepted, firstOr, first, answered, filled}
 use Rattle.rules.specs.Reading.{messageTable, ownRefusal, answerBy, headerOf, readTable, readRefusal, readOf, bitmapOf}
 use Rattle.rules.specs.Reading.{numberingOf}
 use Rattle.rules.specs.Walk.{sectionRows, walkRows, walkOf}
 use Rattle.rules.specs.Bitmap.{Lent}
+use Rattle.rules.specs.Cursor.{indexTable, indexRefusal, indexOf, cursorTable, cursorRefusal, cursorOf}
 use Rattle.rules.specs.Display.{displayTable, displayOf}
 use Rattle.rules.specs.Writing.{Parts, lengthOf, writeTable, writeRefusal, writeOf}
 use Rattle.rules.specs.Checking.{Source, checkTable}
@@ -74,11 +75,13 @@ reply-among [] = inl refl
 reply-among (given r test ∷ rows) = among-on test r (first rows) (numbers rows) (reply-among rows)
 
 pub row-numbers : RowNumbers
-unfolding displayTable readTable checkTable writeTable packTable messageTable walkOf walkRows sectionRows
+unfolding displayTable readTable indexTable cursorTable checkTable writeTable packTable messageTable walkOf walkRows sectionRows
 row-numbers = record {
   reader = λ s lent. refl;
   lists = λ s lent values marks. refl;
   display = λ s lent. refl;
+  index = λ s lent index. refl;
+  cursor = λ s lent index c. refl;
   checker = λ s lent f. refl;
   writer = λ w out. refl;
   packer = λ pds form lent f out. refl;
@@ -103,6 +106,18 @@ unfolding displayTable
 display-zero s lent =
     zero-of (displayTable s lent) (numbered-append (messageTable s lent) _ (own-numbered s lent) tt)
 
+index-zero : (s : List ℕ) (lent : Lent) (index : List ℕ) → accepted (indexRefusal s lent index) ≡ true
+    → indexRefusal s lent index ≡ refusal 0
+unfolding indexRefusal indexTable
+index-zero s lent index =
+    zero-of (indexTable s lent index) (numbered-append (messageTable s lent) _ (own-numbered s lent) tt)
+
+cursor-zero : (s : List ℕ) (lent : Lent) (index : List ℕ) (c : Spot) → accepted (cursorRefusal s lent index c) ≡ true
+    → cursorRefusal s lent index c ≡ refusal 0
+unfolding cursorRefusal cursorTable
+cursor-zero s lent index c =
+    zero-of (cursorTable s lent index c) (numbered-append (messageTable s lent) _ (own-numbered s lent) tt)
+
 write-zero : (w : Parts) (out : List ℕ) → accepted (writeRefusal w out) ≡ true → writeRefusal w out ≡ refusal 0
 unfolding writeRefusal writeTable
 write-zero w out = zero-of (writeTable w out) tt
@@ -113,13 +128,15 @@ unfolding packRefusal packTable writeTable
 pack-zero pds form lent f out = zero-of (packTable pds form lent f out) tt
 
 pub taken-or-refused : TakenOrRefused
-unfolding headerOf readOf answerBy displayOf bitmapOf numberingOf writeOf packOf lengthOf
+unfolding headerOf readOf answerBy displayOf bitmapOf numberingOf indexOf cursorOf writeOf packOf lengthOf
 taken-or-refused = record {
   header = λ s lent. whole (ownRefusal s lent) (own-zero s lent) _ _;
   read = λ s lent values marks. whole (readRefusal s lent values marks) (read-zero s lent values marks) _ _;
   display = λ s lent. whole (first (displayTable s lent)) (display-zero s lent) _ _;
   bitmap = λ s lent. whole (ownRefusal s lent) (own-zero s lent) _ _;
   number = λ s lent i. whole (ownRefusal s lent) (own-zero s lent) _ _;
+  index = λ s lent index. (refl, whole (indexRefusal s lent index) (index-zero s lent index) _ _);
+  cursor = λ s lent index c. whole (cursorRefusal s lent index c) (cursor-zero s lent index c) _ _;
   write = λ w out. (refl, whole (writeRefusal w out) (write-zero w out) _ _);
   pack = λ pds form lent f out. (refl, whole (packRefusal pds form lent f out) (pack-zero pds form lent f out) _ _);
 }

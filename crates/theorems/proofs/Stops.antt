@@ -6,11 +6,12 @@ use mathlib.Core.Bool.{Bool, true, false, _&&_, _||_, cond}
 use mathlib.Core.List.{List, [], _∷_}
 use lib.Dec.{T, eqb, eqb→eq}
 use lib.Ieee.Fits.{and-l, and-r}
-use Rattle.rules.specs.declared.{Refusal.Refusal, Form.Form, Display.Display}
+use Rattle.rules.specs.declared.{Refusal.Refusal, Form.Form, Display.Display, Spot.Spot}
 use Rattle.rules.specs.Table.{Row, given, refusal, accepted, firstOr, first}
 use Rattle.rules.specs.Walk.{sectionRows, walkRows, walkOf}
 use Rattle.rules.specs.Bitmap.{Lent}
 use Rattle.rules.specs.Reading.{messageTable, ownRefusal, readTable, readRefusal}
+use Rattle.rules.specs.Cursor.{indexTable, indexRefusal, cursorTable, cursorRefusal}
 use Rattle.rules.specs.Display.{displayTable, displayOf}
 use Rattle.rules.specs.Writing.{Parts, writeTable, writeRefusal}
 use Rattle.rules.specs.Checking.{Source, checkTable, checkOf}
@@ -75,6 +76,14 @@ module _ (s : List ℕ) (lent : Lent) where
   unfolding displayTable messageTable walkOf walkRows sectionRows
   display-each = each-reply alone (displayTable s lent) tt tt
 
+  index-each : (index : List ℕ) → T (alone (first (indexTable s lent index)))
+  unfolding indexTable messageTable walkOf walkRows sectionRows
+  index-each index = each-reply alone (indexTable s lent index) tt tt
+
+  cursor-each : (index : List ℕ) (c : Spot) → T (alone (first (cursorTable s lent index c)))
+  unfolding cursorTable messageTable walkOf walkRows sectionRows
+  cursor-each index c = each-reply alone (cursorTable s lent index c) tt tt
+
   check-each : (f : Source) → T (alone (first (checkTable s lent f)))
   unfolding checkTable messageTable walkOf walkRows sectionRows
   check-each f = each-reply alone (checkTable s lent f) tt tt
@@ -89,11 +98,13 @@ unfolding packTable writeTable
 pack-each pds form lent f out = each-reply silent (packTable pds form lent f out) tt tt
 
 pub stops-told-alone : StopsToldAlone
-unfolding ownRefusal readRefusal checkOf writeRefusal packRefusal
+unfolding ownRefusal readRefusal indexRefusal cursorRefusal checkOf writeRefusal packRefusal
 stops-told-alone = record {
   header = λ s lent. tells _ (own-each s lent);
   read = λ s lent values marks. tells _ (read-each s lent values marks);
   display = λ s lent. subst TellsAlone (sym (display-reply s lent)) (tells _ (display-each s lent));
+  index = λ s lent index. tells _ (index-each s lent index);
+  cursor = λ s lent index c. tells _ (cursor-each s lent index c);
   check = λ s lent f. tells _ (check-each s lent f);
   write = λ w out. silent-is _ (write-each w out);
   pack = λ pds form lent f out. silent-is _ (pack-each pds form lent f out);

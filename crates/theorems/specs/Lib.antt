@@ -8,3 +8,4 @@ pub mod Returns
 pub mod Checks
 pub mod Kinds
 pub mod Turns
+pub mod Cursors

@@ -8,12 +8,15 @@ use mathlib.Core.List.{List, [], _∷_, _++_}
 use lib.Dec.{T, eqb}
 use lib.ListN.{length, take, drop}
 use lib.Ieee.{binary64, ofBits}
-use Rattle.rules.specs.declared.{Refusal.Refusal, Form.Form}
+use Rattle.rules.specs.declared.{Refusal.Refusal, Form.Form, Spot.Spot, UnderCursor.the-variants.Refused}
 use Rattle.rules.specs.Table.{Row, given, refusal, accepted, first, filled}
 use Rattle.rules.specs.Bitmap.{Lent, noBitmap}
 use Rattle.rules.specs.Points.{dataNumber, outside}
 use Rattle.rules.specs.Reading.{messageTable, ownRefusal, foundIn, refusedBy, headerOf, readTable, readRefusal, readOf}
 use Rattle.rules.specs.Reading.{scaleIn, inForceIn, bitmapOf, presentIn, pointsIn, numberingOf}
+use Rattle.rules.specs.Chart.{pointOn}
+use Rattle.rules.specs.Cursor.{groupsFor, indexTable, indexRefusal, indexOf, shapeIn, cursorTable, cursorRefusal}
+use Rattle.rules.specs.Cursor.{underAt, cursorOf}
 use Rattle.rules.specs.Display.{displayTable, displayOf, shownReference, shownStep}
 use Rattle.rules.specs.Writing.{Parts, message, writeTable, writeRefusal, writeOf, lengthOf}
 use Rattle.rules.specs.Checking.{Source, checkTable}
@@ -48,7 +51,8 @@ ReplyAmong = (rows : List Row) → Among (first rows .number) (0 ∷ numbers row
 abbrev pub sectionNumbers : List ℕ
 sectionNumbers = 22 ∷ 20 ∷ 21 ∷ 22 ∷ []
 
--- the reader's rows are 1 to 12, with the walk's 20 to 23 "section by section from the front, where 5 stood"; "Checker:
+-- the reader's rows are 1 to 12, with the walk's 20 to 23 "section by section from the front, where 5 stood"; R-6: "the
+-- message's own, then 24 for a place outside the chart, then 25", and filling an index "14 if too short"; "Checker:
 -- 1 to 12, then 18, 15, 16, 17"; "The writer never gives 1 to 4, 8 or 12"; "Packer: 5, 18, 15 .., 11, 19, then the rest
 -- of the writer's"
 pub record RowNumbers : Type 0 where
@@ -59,6 +63,10 @@ pub record RowNumbers : Type 0 where
   pub lists : (s : List ℕ) (lent : Lent) (values marks : List ℕ)
       → numbers (readTable s lent values marks) ≡ numbers (messageTable s lent) ++ (14 ∷ [])
   pub display : (s : List ℕ) (lent : Lent) → numbers (displayTable s lent) ≡ numbers (messageTable s lent) ++ (16 ∷ [])
+  pub index : (s : List ℕ) (lent : Lent) (index : List ℕ)
+      → numbers (indexTable s lent index) ≡ numbers (messageTable s lent) ++ (14 ∷ [])
+  pub cursor : (s : List ℕ) (lent : Lent) (index : List ℕ) (c : Spot)
+      → numbers (cursorTable s lent index c) ≡ numbers (messageTable s lent) ++ (24 ∷ 25 ∷ [])
   pub checker : (s : List ℕ) (lent : Lent) (f : Source)
       → numbers (checkTable s lent f) ≡ numbers (messageTable s lent) ++ (18 ∷ 15 ∷ 16 ∷ 17 ∷ [])
   pub writer : (w : Parts) (out : List ℕ) → numbers (writeTable w out) ≡ 5 ∷ 6 ∷ 7 ∷ 9 ∷ 10 ∷ 11 ∷ 13 ∷ 14 ∷ []
@@ -100,6 +108,12 @@ pub record TakenOrRefused : Type 0 where
   pub bitmap : (s : List ℕ) (lent : Lent) → Whole (ownRefusal s lent) (inForceIn s) noBitmap (bitmapOf s lent)
   pub number : (s : List ℕ) (lent : Lent) (i : ℕ)
       → Whole (ownRefusal s lent) (dataNumber (presentIn s lent) (pointsIn s) i) outside (numberingOf s lent i)
+  pub index : (s : List ℕ) (lent : Lent) (index : List ℕ)
+      → (indexOf s lent index .refusal ≡ indexRefusal s lent index)
+      × Whole (indexRefusal s lent index) (groupsFor (pointsIn s)) 0 (indexOf s lent index .entries)
+  pub cursor : (s : List ℕ) (lent : Lent) (index : List ℕ) (c : Spot)
+      → let r = cursorRefusal s lent index c in
+      Whole r (underAt s lent index (pointOn (shapeIn s) c)) (Refused r) (cursorOf s lent index c)
   pub write : (w : Parts) (out : List ℕ)
       → (writeOf w out .refusal ≡ writeRefusal w out)
       × Whole (writeRefusal w out) (length (message w)) 0 (writeOf w out .len)

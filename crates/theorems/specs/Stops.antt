@@ -6,7 +6,7 @@ use mathlib.Core.Logic.{_↔_, _⊎_}
 use mathlib.Core.Bool.{_&&_}
 use mathlib.Core.List.{List, [], _∷_}
 use lib.ListN.{getD}
-use Rattle.rules.specs.declared.{Refusal.Refusal, Form.Form}
+use Rattle.rules.specs.declared.{Refusal.Refusal, Form.Form, Spot.Spot}
 use Rattle.rules.specs.Table.{Row, row, refusal, anyOf, first}
 use Rattle.rules.specs.Places.{noPart, after, pdsStart, endStart, hasGrid, placesOf, sectionsOf, sizeBad, gribBad}
 use Rattle.rules.specs.Places.{editionBad, totalFaults}
@@ -16,6 +16,7 @@ use Rattle.rules.specs.Grid.{gdsBad, gridMissing, theGrid, gridFaults}
 use Rattle.rules.specs.Bitmap.{Lent, bitmapFaults}
 use Rattle.rules.specs.Values.{packingFaults, lengthBad}
 use Rattle.rules.specs.Reading.{gridOf, pointsIn, bitmapIn, presentCount, packingIn, ownRefusal, readRefusal}
+use Rattle.rules.specs.Cursor.{indexRefusal, cursorRefusal}
 use Rattle.rules.specs.Display.{displayOf}
 use Rattle.rules.specs.Writing.{Parts, writeRefusal}
 use Rattle.rules.specs.Checking.{Source, checkOf}
@@ -78,6 +79,8 @@ pub record StopsToldAlone : Type 0 where
   pub header : (s : List ℕ) (lent : Lent) → TellsAlone (ownRefusal s lent)
   pub read : (s : List ℕ) (lent : Lent) (values marks : List ℕ) → TellsAlone (readRefusal s lent values marks)
   pub display : (s : List ℕ) (lent : Lent) → TellsAlone (displayOf s lent .refusal)
+  pub index : (s : List ℕ) (lent : Lent) (index : List ℕ) → TellsAlone (indexRefusal s lent index)
+  pub cursor : (s : List ℕ) (lent : Lent) (index : List ℕ) (c : Spot) → TellsAlone (cursorRefusal s lent index c)
   pub check : (s : List ℕ) (lent : Lent) (f : Source) → TellsAlone (checkOf s lent f)
   pub write : (w : Parts) (out : List ℕ) → writeRefusal w out ≡ refusal (writeRefusal w out .number)
   pub pack : (pds : List ℕ) (form : Form) (lent : Lent) (f : Source) (out : List ℕ)

@@ -27,3 +27,6 @@ pub «take_all» : Tight contracts.take_all.ended λ M. contracts.take_all.claus
 
 pub «data_place» : Tight contracts.data_place.ended λ M. contracts.data_place.clauses
 «data_place» k g h x y ws vs = by-reply k refl
+
+pub «value_place» : Tight contracts.value_place.ended λ M. contracts.value_place.clauses
+«value_place» k g h x y ws vs = by-reply k refl

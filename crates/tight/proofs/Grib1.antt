@@ -42,3 +42,9 @@ pub «grib1_check» : Tight contracts.grib1_check.ended λ M. contracts.grib1_ch
 
 pub «grib1_pack» : Tight contracts.grib1_pack.ended λ M. contracts.grib1_pack.clauses
 «grib1_pack» k g h x y ws vs = by-list k λ e i. (tt, (tt, (tt, (tt, (tt, (tt, (tt, (e i, tt))))))))
+
+pub «grib1_index» : Tight contracts.grib1_index.ended λ M. contracts.grib1_index.clauses
+«grib1_index» k g h x y ws vs = by-list k λ e i. (tt, (tt, (tt, (e i, tt))))
+
+pub «grib1_cursor» : Tight contracts.grib1_cursor.ended λ M. contracts.grib1_cursor.clauses
+«grib1_cursor» k g h x y ws vs = by-reply k refl

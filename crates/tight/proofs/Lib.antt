@@ -32,6 +32,7 @@ pub mod DataNumbers
 pub mod Display
 pub mod Bitreader
 pub mod Field
+pub mod Cursor
 pub mod Listing
 -- the source field, the check and the packer's choice
 pub mod Source

@@ -33,3 +33,9 @@ pub «form_by» : Tight contracts.form_by.ended λ M. contracts.form_by.clauses
 
 pub «scale_by» : Tight contracts.scale_by.ended λ M. contracts.scale_by.clauses
 «scale_by» k g h x y ws vs = by-reply k refl
+
+pub «indexed_record» : Tight contracts.indexed_record.ended λ M. contracts.indexed_record.clauses
+«indexed_record» k g h x y ws vs = by-reply k refl
+
+pub «cursor_record» : Tight contracts.cursor_record.ended λ M. contracts.cursor_record.clauses
+«cursor_record» k g h x y ws vs = by-reply k refl

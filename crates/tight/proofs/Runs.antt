@@ -12,3 +12,12 @@ fetch k g h x y ws vs = by-reply k refl
 
 pub unpack : Tight contracts.unpack.ended λ M. contracts.unpack.clauses
 unpack k g h x y ws vs = by-list k λ e i. (tt, (tt, (tt, (e i, (tt, tt)))))
+
+pub bit : Tight contracts.bit.ended λ M. contracts.bit.clauses
+bit k g h x y ws vs = by-reply k refl
+
+pub «ones_256» : Tight contracts.ones_256.ended λ M. contracts.ones_256.clauses
+«ones_256» k g h x y ws vs = by-reply k refl
+
+pub «ones_few» : Tight contracts.ones_few.ended λ M. contracts.ones_few.clauses
+«ones_few» k g h x y ws vs = by-reply k refl

@@ -1,10 +1,11 @@
 //! One call of the codec: what is sent to the driver, and what must come back.
 
 use second_reading as rules;
+use crate::cursor::Met;
 use crate::kinds::{in_form, in_message, of_grid};
 use second_reading::cases::pds_in;
 use second_reading::grid::{from_catalogue, points};
-use second_reading::{BitmapKind, DataNumber, Form, Grid, Header, Lent, Part, Parts, Reply, Rows, Source};
+use second_reading::{BitmapKind, DataNumber, Form, Grid, Header, Lent, Part, Parts, Reply, Rows, Source, UnderCursor};
 
 /// The functions by the driver's numbers.
 const HEADER: u32 = 0;
@@ -20,6 +21,8 @@ const WRITE: u32 = 9;
 const PACK: u32 = 10;
 const LENGTH: u32 = 11;
 const ROW: u32 = 12;
+const INDEX: u32 = 13;
+const CURSOR: u32 = 14;
 
 /// Octets that hold any message that is written: a GDS of 42 with 65,536 points.
 const WRITTEN_MOST: usize = 205_896;
@@ -37,6 +40,8 @@ pub struct Call {
     pub kind: Option<usize>,
     /// Of a function of the chart, whether it finds something there.
     pub found: Option<bool>,
+    /// Of the cursor on a message that is taken, what it meets.
+    pub met: Option<Met>,
 }
 
 #[derive(Default)]
@@ -164,6 +169,7 @@ pub fn header(message: &[u8], lent: &Lent) -> (Header, Call) {
         pds: pds_in(message).to_vec(),
         kind: in_message(message),
         found: None,
+        met: None,
     };
     (h, call)
 }
@@ -179,6 +185,7 @@ pub fn read(message: &[u8], lent: &Lent, values: &[u32], marks: &[u8]) -> Call {
         pds: pds_in(message).to_vec(),
         kind: in_message(message),
         found: None,
+        met: None,
     }
 }
 
@@ -192,6 +199,7 @@ pub fn section(message: &[u8], lent: &Lent, k: u32) -> Call {
         pds: Vec::new(),
         kind: None,
         found: None,
+        met: None,
     }
 }
 
@@ -205,6 +213,7 @@ pub fn bitmap(message: &[u8], lent: &Lent) -> Call {
         pds: Vec::new(),
         kind: None,
         found: None,
+        met: None,
     }
 }
 
@@ -222,6 +231,7 @@ pub fn display(message: &[u8], lent: &Lent) -> Call {
         pds: pds_in(message).to_vec(),
         kind: in_message(message),
         found: None,
+        met: None,
     }
 }
 
@@ -239,6 +249,44 @@ pub fn data_number(message: &[u8], lent: &Lent, point: u32) -> Call {
         pds: Vec::new(),
         kind: None,
         found: None,
+        met: None,
+    }
+}
+
+pub fn index(message: &[u8], lent: &Lent, room: &[u32]) -> Call {
+    let mut after = room.to_vec();
+    let filled = rules::fill(message, lent, &mut after);
+    Call {
+        what: format!("index of {} entries", room.len()),
+        asked: std::mem::take(&mut asked(INDEX, message, lent).list_of_words(room).0),
+        expected: Octets::default().reply(filled.reply).word(filled.entries).words(&after).kept(),
+        reply: Some(filled.reply),
+        pds: pds_in(message).to_vec(),
+        kind: in_message(message),
+        found: None,
+        met: None,
+    }
+}
+
+/// The cursor at a place, where there must be this.
+pub fn cursor(message: &[u8], lent: &Lent, index: &[u32], at: (u32, u32), there: UnderCursor, met: Option<Met>) -> Call {
+    let (row, column) = at;
+    let (kind, value) = match there {
+        UnderCursor::Refused(_) => (0, 0),
+        UnderCursor::Value(x) => (1, x),
+        UnderCursor::Absent => (2, 0),
+    };
+    let mut asked = asked(CURSOR, message, lent);
+    asked.list_of_words(index).words(&[row, column]);
+    Call {
+        what: format!("cursor at {row}, {column} by {} entries", index.len()),
+        asked: asked.0,
+        expected: Octets::default().reply(there.reply()).words(&[kind, value]).kept(),
+        reply: Some(there.reply()),
+        pds: pds_in(message).to_vec(),
+        kind: in_message(message),
+        found: None,
+        met,
     }
 }
 
@@ -267,6 +315,7 @@ impl Chart {
             pds: Vec::new(),
             kind: Some(of_grid(g)),
             found: Some(told[0] != 0),
+            met: None,
         }
     }
 
@@ -313,6 +362,7 @@ pub fn write(parts: &Parts, kinds: Kinds, out: &[u8]) -> Call {
         pds: parts.pds.clone(),
         kind: in_form(&meant.form),
         found: None,
+        met: None,
     }
 }
 
@@ -333,6 +383,7 @@ pub fn length(pds: &[u8], form: &Form, kinds: Kinds, lent: &Lent, marks: &[u8]) 
         pds: pds.to_vec(),
         kind: in_form(&meant),
         found: None,
+        met: None,
     }
 }
 
@@ -352,6 +403,7 @@ pub fn check(message: &[u8], lent: &Lent, source: &Source) -> Call {
         pds: pds_in(message).to_vec(),
         kind: in_message(message),
         found: None,
+        met: None,
     }
 }
 
@@ -378,6 +430,7 @@ pub fn pack(pds: &[u8], form: &Form, kinds: Kinds, lent: &Lent, source: &Source,
         pds: pds.to_vec(),
         kind: in_form(&meant),
         found: None,
+        met: None,
     };
     after.truncate(len as usize);
     (call, after)

@@ -27,11 +27,13 @@ const fn function(name: &'static str, (met, of_none): (&'static [usize], usize))
 }
 
 /// By the first word of what a call is called.
-const FUNCTIONS: [Function; 10] = [
+const FUNCTIONS: [Function; 12] = [
     function("header", READS),
     function("read", READS),
     function("display", READS),
     function("check", READS),
+    function("index", READS),
+    function("cursor", READS),
     function("write", WRITES),
     function("length", WRITES),
     function("pack", WRITES),

@@ -2,6 +2,7 @@
 //! bitmaps with whole octets of ones and of zeros, every N.
 
 use crate::call::{self, Call, Chart, Kinds};
+use crate::cursor;
 use second_reading::cases::Rng;
 use second_reading::grid::{from_catalogue, layout_of, length_of, own_figures, points, What, KINDS, LAT_LON};
 use second_reading::{points_in_row, write, BitmapKind, Form, Grid, Lent, Parts, Reply, Rows, Source};
@@ -148,6 +149,8 @@ pub fn calls(seed: u64, index: usize) -> Vec<Call> {
     calls.push(call::read(&message, &lent, &lists.0[..n - 1], &lists.1));
     calls.push(call::bitmap(&message, &lent));
     calls.push(call::display(&message, &lent));
+    let mut asking = Rng::new(seed ^ 0xC1 ^ (index as u64) << 20);
+    calls.extend(cursor::calls(&mut asking, &message, &lent));
     let chart = Chart::of(&grid);
     for point in [0, n / 2, n - 1, n] {
         calls.push(call::data_number(&message, &lent, point as u32));

@@ -4,7 +4,7 @@ use crate::call::Call;
 use second_reading::cases::{year_met, YEARS};
 
 /// The functions that judge a time and give a reply, by the first word of what a call is called.
-const KINDS: [&str; 7] = ["header", "read", "display", "check", "write", "length", "pack"];
+const KINDS: [&str; 9] = ["header", "read", "display", "check", "index", "cursor", "write", "length", "pack"];
 
 #[derive(Default)]
 pub struct Years([[usize; YEARS.len()]; KINDS.len()]);

@@ -1,14 +1,14 @@
 //! Cases printed as statements of the proof language. Every name that the
 //! language's side may choose to change stands in this module alone.
 
-use crate::cases::{CheckCase, PackCase, ReadCase, WriteCase};
+use crate::cases::{CheckCase, CursorCase, PackCase, ReadCase, WriteCase};
 use crate::grid::{
     grid_outside_rules, of_no_kind, place_of, points_in_row, to_gds, GAUSSIAN, LAMBERT, LAT_LON,
     MERCATOR, POLAR,
 };
 use crate::{
-    bitmap_in_force, check, display, pack, read, section, write, BitmapKind, Form, Grid, Header,
-    Lent, Part, Parts, Reply, Rows, Source,
+    bitmap_in_force, check, display, fill, pack, read, section, under, write, BitmapKind, Form,
+    Grid, Header, Lent, Part, Parts, Reply, Rows, Source, UnderCursor,
 };
 
 /// The lines that every file begins with.
@@ -215,6 +215,19 @@ fn written(outcome: (u32, u32)) -> String {
     )
 }
 
+/// A place of the chart.
+fn spot((row, column): (u32, u32)) -> String {
+    format!("record {{ row = {row}; column = {column} }}")
+}
+
+fn under_cursor(there: UnderCursor) -> String {
+    match there {
+        UnderCursor::Refused(reply) => format!("Refused ({})", refusal(reply)),
+        UnderCursor::Absent => "Absent".to_string(),
+        UnderCursor::Value(x) => format!("Value {x}"),
+    }
+}
+
 /// A name for a long list of octets.
 fn abbreviation(name: &str, message: &[u8]) -> String {
     format!("\nabbrev {name} : List ℕ\n{name} = {}\n", octets(message))
@@ -301,8 +314,7 @@ pub fn read_statements(k: usize, case: &ReadCase) -> (String, u32) {
             &format!("{name}-places"),
             &format!("map (spotOn {shape}) {}", given(&naturals(&points))),
             &list(points, |point| {
-                let (row, column) = place_of(&own.grid, point).expect("a point of the grid");
-                format!("record {{ row = {row}; column = {column} }}")
+                spot(place_of(&own.grid, point).expect("a point of the grid"))
             }),
         );
         let nj = own.grid.nj as u32;
@@ -395,4 +407,48 @@ pub fn pack_statements(k: usize, case: &PackCase) -> (String, u32) {
         &octets(&out),
     );
     (text, outcome.0)
+}
+
+/// The statements of a case for the cursor, and the replies of its calls.
+pub fn cursor_statements(k: usize, case: &CursorCase) -> (String, Vec<u32>) {
+    let name = format!("cursor-{k}");
+    let s = format!("{name}-s");
+    let (message, asking) = (&case.message, &case.asking);
+    let l = given(&lent(&case.lent));
+    let arguments = format!("{s} {l} {}", given(&naturals(&asking.room)));
+    let mut room = asking.room.clone();
+    let filled = fill(message, &case.lent, &mut room);
+    let mut replies = vec![filled.reply.number];
+
+    let mut text = abbreviation(&s, message);
+    text += &statement(
+        &name,
+        &format!("indexOf {arguments}"),
+        &format!(
+            "record {{ refusal = {}; entries = {} }}",
+            refusal(filled.reply),
+            filled.entries
+        ),
+    );
+    text += &statement(
+        &format!("{name}-index"),
+        &format!("indexAfter {arguments}"),
+        &naturals(&room),
+    );
+    let there: Vec<UnderCursor> = asking
+        .places
+        .iter()
+        .map(|&(row, column)| under(message, &case.lent, &asking.index, row, column))
+        .collect();
+    replies.extend(there.iter().map(|there| there.reply().number));
+    text += &statement(
+        &format!("{name}-places"),
+        &format!(
+            "map (cursorOf {s} {l} {}) {}",
+            given(&naturals(&asking.index)),
+            given(&list(asking.places.iter().copied(), spot))
+        ),
+        &list(there, under_cursor),
+    );
+    (text, replies)
 }

@@ -1,4 +1,4 @@
-//! Seeded cases for the reader, the writer, the checker and the packer.
+//! Seeded cases for the reader, the writer, the checker, the packer and the cursor.
 //!
 //! Each case comes from the seed, the function and its own number alone. Half of
 //! the cases are meant to be taken. The others are damaged on purpose for one
@@ -16,6 +16,10 @@ use crate::read::header;
 use crate::time::days_in;
 use crate::write::write;
 use crate::{BitmapKind, Figure, Form, Grid, Lent, Parts, Rows, Source, FIGURES};
+
+mod cursor;
+
+pub use cursor::{cursor_case, some_asking, Asking, CursorCase, CURSOR_REPLIES};
 
 /// A small random number generator (splitmix64).
 pub struct Rng(u64);
@@ -268,6 +272,11 @@ fn sound_grid(rng: &mut Rng, aims: &[u32]) -> Grid {
     if ni * nj > 30 {
         ni = 5;
     }
+    sound_grid_of(rng, aims, ni, nj)
+}
+
+/// A grid of so many columns and rows that keeps the rules.
+fn sound_grid_of(rng: &mut Rng, aims: &[u32], ni: usize, nj: usize) -> Grid {
     let mut scan = (rng.below(8) * 32) as u8;
     if rng.chance(30) {
         scan |= rng.octet() & 0x1F;
@@ -416,8 +425,12 @@ fn some_field(rng: &mut Rng, with_bitmap: bool, size: Size, aims: &[u32]) -> Fie
     while with_bitmap && kind == BitmapKind::Without {
         kind = some_kind(rng);
     }
-    let n = points(&grid) as usize;
-    let marks = some_marks(rng, kind, n);
+    let marks = some_marks(rng, kind, points(&grid) as usize);
+    field_of(rng, grid, kind, marks, bits)
+}
+
+/// A field on this grid with these points present, and so many bits for a value.
+fn field_of(rng: &mut Rng, grid: Grid, kind: BitmapKind, marks: Vec<bool>, bits: u8) -> Field {
     let lent = some_lent(rng, kind, &marks);
     let top = (1u64 << bits) - 1;
     let values = marks
@@ -1310,7 +1323,7 @@ fn blind(rng: &mut Rng, message: &mut Vec<u8>, lent: &mut Lent) {
 }
 
 // ---------------------------------------------------------------------------
-// The four kinds of case
+// The kinds of case; the cursor's have a file of their own
 // ---------------------------------------------------------------------------
 
 /// The case of a number for the reader.
@@ -2005,7 +2018,7 @@ pub fn pack_case(seed: u64, index: usize, size: Size) -> PackCase {
 
 /// How often each reply was given.
 #[derive(Default)]
-pub struct Histogram(pub [usize; 24]);
+pub struct Histogram(pub [usize; 26]);
 
 impl Histogram {
     pub fn count(&mut self, reply: u32) {
@@ -2016,7 +2029,7 @@ impl Histogram {
 impl std::fmt::Display for Histogram {
     fn fmt(&self, f: &mut std::fmt::Formatter<'_>) -> std::fmt::Result {
         let all: usize = self.0.iter().sum();
-        write!(f, "{all} cases:")?;
+        write!(f, "{all} replies:")?;
         for (reply, &times) in self.0.iter().enumerate() {
             if times > 0 {
                 write!(f, " {reply}:{times}")?;

@@ -3,10 +3,11 @@
 //! This package computes, slowly and literally, what document 01 ("Definition
 //! of the build and its rules") says a GRIB Edition 1 codec must answer, and
 //! what the requests of document 02 that have landed add to it or change in it
-//! (R-1 to R-4). It was written from these documents alone, with the list of
-//! open points deciding where they leave room for two readings. It shares nothing with the codec it
-//! is used to test: no code, no constants, no tricks. Wherever a person with
-//! paper and pencil would write out bits, the code here writes out bits.
+//! (R-1 to R-4 and R-6). It was written from these documents alone, with the list
+//! of open points deciding where they leave room for two readings. It shares
+//! nothing with the codec it is used to test: no code, no constants, no tricks.
+//! Wherever a person with paper and pencil would write out bits, the code here
+//! writes out bits.
 //!
 //! The modules follow the document:
 //!
@@ -15,22 +16,24 @@
 //! * `time`    the time rules;
 //! * `read`    replies 1 to 4, 20 to 23, 6 to 12 and 14, the header, the parts of a
 //!   message;
+//! * `cursor`  the index of a message, and one value under the cursor;
 //! * `display` R and 2^E as IEEE doubles;
 //! * `write`   the writer;
 //! * `again`   writing what was read;
 //! * `check`   the checker;
 //! * `pack`    the packer;
 //! * `list`    the listing program;
-//! * `cases`   seeded cases for the four big functions;
+//! * `cases`   seeded cases for the four big functions and for the cursor;
 //! * `antt`    the cases printed as statements of a proof language;
-//! * `vectors` what to read, write, check and pack at each edge, with the replies
-//!   written by hand.
+//! * `vectors` what to read, write, check, pack and ask at each edge, with the
+//!   replies written by hand.
 
 pub mod again;
 pub mod antt;
 pub mod bits;
 pub mod cases;
 pub mod check;
+pub mod cursor;
 pub mod display;
 pub mod grid;
 pub mod list;
@@ -41,6 +44,7 @@ pub mod vectors;
 pub mod write;
 
 pub use check::check;
+pub use cursor::{fill, under};
 pub use display::display;
 pub use grid::{place_of, point_at, points_in_row};
 pub use list::listing;
@@ -299,9 +303,9 @@ pub struct Lent {
     pub octets: Vec<u8>,
 }
 
-/// A reply of the reader, of the display or of the checker. Of 20 to 23 it also
-/// says where a length went wrong; of every other number, acceptance included,
-/// section and place are 0.
+/// A reply of the reader, of the display, of the checker or of the cursor. Of 20 to
+/// 23 it also says where a length went wrong; of every other number, acceptance
+/// included, section and place are 0.
 #[derive(Clone, Copy, PartialEq, Eq, Debug, Default)]
 pub struct Reply {
     pub number: u32,
@@ -362,6 +366,31 @@ pub enum DataNumber {
     Present(u32),
     Absent,
     Outside,
+}
+
+/// What filling an index answers: how many entries it took, none where it is refused.
+#[derive(Clone, Copy, PartialEq, Eq, Debug)]
+pub struct Indexed {
+    pub reply: Reply,
+    pub entries: u32,
+}
+
+/// What stands at a place of the chart.
+#[derive(Clone, Copy, PartialEq, Eq, Debug)]
+pub enum UnderCursor {
+    Refused(Reply),
+    Absent,
+    Value(u32),
+}
+
+impl UnderCursor {
+    /// The reply, 0 where it is not refused.
+    pub fn reply(&self) -> Reply {
+        match *self {
+            UnderCursor::Refused(reply) => reply,
+            UnderCursor::Absent | UnderCursor::Value(_) => Reply::of(0),
+        }
+    }
 }
 
 /// The caller's choices that the writer and the packer share.

@@ -161,7 +161,7 @@ fn bms(message: &[u8]) -> &[u8] {
     part_of(message, places(message).bms)
 }
 
-fn bds(message: &[u8]) -> &[u8] {
+pub(crate) fn bds(message: &[u8]) -> &[u8] {
     part_of(message, places(message).bds)
 }
 
@@ -204,7 +204,7 @@ fn row_8(message: &[u8]) -> bool {
 }
 
 /// "With one, the GDS decides and octet 7 is not compared."
-fn grid(message: &[u8]) -> Grid {
+pub(crate) fn grid(message: &[u8]) -> Grid {
     if has_gds(message) {
         from_gds(gds(message))
     } else {
@@ -255,7 +255,7 @@ fn kind(message: &[u8]) -> BitmapKind {
 
 /// The mark of each grid point: the first n bits of the bitmap, or ones
 /// throughout where there is none. "1 = present"
-fn presence(message: &[u8], lent: &Lent) -> Vec<bool> {
+pub(crate) fn presence(message: &[u8], lent: &Lent) -> Vec<bool> {
     let n = points(&grid(message)) as usize;
     let bits = match kind(message) {
         BitmapKind::Without => vec![true; n],

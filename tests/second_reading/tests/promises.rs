@@ -1,9 +1,11 @@
 //! What the mission promises, tried on the generated cases: a refusal changes
 //! nothing, writing reads back, reading and writing again gives the same octets,
-//! and what the packer writes passes the check.
+//! what the packer writes passes the check, and from a filled index the cursor gives
+//! what reading gives.
 
 use second_reading::again::{as_read, cleaned, parts_of};
 use second_reading::cases::*;
+use second_reading::cursor::{count, Taken, GROUP};
 use second_reading::*;
 
 const SEEDS: [(u64, Size); 4] = [
@@ -146,6 +148,141 @@ fn checking_agrees_with_reading() {
     }
 }
 
+/// "The answer must equal what a full read gives there, for any accepted message and
+/// an index filled from it": at every place of the chart; and 24 around it.
+fn cursor_equals_reading(message: &[u8], lent: &Lent, room: &[u32]) {
+    let mut index = room.to_vec();
+    let filled = fill(message, lent, &mut index);
+    let h = header(message, lent);
+    if h.reply != 0 {
+        assert_eq!((filled.reply, filled.entries), (h.told(), 0));
+        assert_eq!(index, room);
+        assert_eq!(under(message, lent, room, 0, 0).reply(), h.told());
+        return;
+    }
+    let n = h.points as usize;
+    let groups = n.div_ceil(GROUP);
+    if room.len() < groups {
+        assert_eq!((filled.reply, filled.entries), (Reply::of(14), 0));
+        assert_eq!(index, room);
+        return;
+    }
+    assert_eq!(
+        (filled.reply, filled.entries as usize),
+        (Reply::of(0), groups)
+    );
+    assert_eq!(index[groups..], room[groups..]);
+    let (mut values, mut marks) = (vec![9; n], vec![9; n]);
+    read(message, lent.number, &lent.octets, &mut values, &mut marks);
+    let taken = Taken::of(message, lent).expect("an accepted message");
+    for point in 0..n {
+        let (row, column) = place_of(&h.grid, point as u32).expect("one of its points");
+        let there = match marks[point] {
+            1 => UnderCursor::Value(values[point]),
+            _ => UnderCursor::Absent,
+        };
+        assert_eq!(taken.under(&index, row, column), there);
+        if point % 61 == 0 {
+            assert_eq!(taken.under(&index[..groups], row, column), there);
+            let short = taken.under(&index[..groups - 1], row, column);
+            assert_eq!(short.reply(), Reply::of(25));
+        }
+    }
+    let rows = h.grid.nj as u32;
+    let past = (0..rows).map(|row| (row, points_in_row(&h.grid, row)));
+    for (row, column) in past.chain([(rows, 0), (u32::MAX, 0), (0, u32::MAX)]) {
+        let off = UnderCursor::Refused(Reply::of(24));
+        assert_eq!(under(message, lent, &index, row, column), off);
+        assert_eq!(under(message, lent, &[], row, column), off);
+    }
+}
+
+#[test]
+fn the_cursor_equals_reading() {
+    for (seed, size) in SEEDS {
+        for k in 0..COUNT / 2 {
+            let case = cursor_case(seed, k, size);
+            cursor_equals_reading(&case.message, &case.lent, &case.asking.room);
+        }
+        for k in 0..COUNT / 5 {
+            let case = read_case(seed, k, size);
+            cursor_equals_reading(&case.message, &case.lent, &[7; 300]);
+        }
+    }
+}
+
+/// What an index can be at a place, as a case can meet it.
+const INDEXES: [&str; 9] = [
+    "the filled one",
+    "other entries elsewhere",
+    "another entry and the next",
+    "too short",
+    "too low or too high",
+    "the next entry wrong",
+    "above m, the next entry agreeing",
+    "a sum of 32 bits agreeing",
+    "in the last group",
+];
+
+/// Which of these an index is at a place; the last only where it is refused.
+fn index_met(taken: &Taken, index: &[u32], group: usize) -> usize {
+    let own = taken.entries();
+    if index.len() < own.len() {
+        return 3;
+    }
+    if index[..own.len()] == own {
+        return 0;
+    }
+    let ones = count(taken.group(group)) as u32;
+    let sum = index[group] as u64 + ones as u64;
+    if group + 1 == own.len() {
+        return if index[group] == own[group] { 1 } else { 8 };
+    }
+    match (sum == index[group + 1] as u64, index[group] == own[group]) {
+        (true, _) if sum > taken.present() as u64 => 6,
+        (true, true) => 1,
+        (true, false) => 2,
+        (false, true) => 5,
+        (false, false) if sum as u32 == index[group + 1] => 7,
+        (false, false) => 4,
+    }
+}
+
+/// 25, and what is told from an index that is not refused, at each place that a case
+/// asks for.
+#[test]
+fn every_index_is_met() {
+    let mut met = [[0; 3]; INDEXES.len()];
+    for (seed, size) in SEEDS {
+        for k in 0..COUNT {
+            let CursorCase {
+                message,
+                lent,
+                asking,
+            } = cursor_case(seed, k, size);
+            let Ok(taken) = Taken::of(&message, &lent) else {
+                continue;
+            };
+            for (row, column) in asking.places {
+                let there = under(&message, &lent, &asking.index, row, column);
+                let Some(point) = point_at(taken.grid(), row, column) else {
+                    assert_eq!(there.reply(), Reply::of(24));
+                    continue;
+                };
+                let what = index_met(&taken, &asking.index, point as usize / GROUP);
+                assert_eq!(there.reply(), Reply::of(if what > 2 { 25 } else { 0 }));
+                let absent = !taken.group(point as usize / GROUP)[point as usize % GROUP];
+                met[what][absent as usize] += 1;
+                met[what][2] += (taken.groups() > 3) as usize;
+            }
+        }
+    }
+    for (what, [present, absent, octants]) in INDEXES.iter().zip(met) {
+        let some = present > 5 && absent > 5 && octants > 0;
+        assert!(some, "{what}: {present}, {absent}, {octants}");
+    }
+}
+
 fn enough(histogram: &Histogram, replies: &[u32], least: usize) {
     let all: usize = histogram.0.iter().sum();
     assert!(histogram.0[0] * 100 >= 40 * all, "{histogram}");
@@ -161,7 +298,7 @@ fn enough(histogram: &Histogram, replies: &[u32], least: usize) {
 fn every_reply_occurs() {
     for seed in 1..=5 {
         for size in [Size::Small, Size::Short] {
-            let mut replies: [Histogram; 4] = Default::default();
+            let mut replies: [Histogram; 5] = Default::default();
             for k in 0..400 {
                 let (_, reply) = antt::read_statements(k, &read_case(seed, k, size));
                 replies[0].count(reply);
@@ -171,11 +308,14 @@ fn every_reply_occurs() {
                 replies[2].count(reply);
                 let (_, reply) = antt::pack_statements(k, &pack_case(seed, k, size));
                 replies[3].count(reply);
+                let (_, all) = antt::cursor_statements(k, &cursor_case(seed, k, size));
+                all.into_iter().for_each(|reply| replies[4].count(reply));
             }
             enough(&replies[0], &READ_REPLIES, 3);
             enough(&replies[1], &WRITE_REPLIES, 3);
             enough(&replies[2], &CHECK_REPLIES, 3);
             enough(&replies[3], &PACK_REPLIES, 3);
+            enough(&replies[4], &CURSOR_REPLIES, 3);
         }
     }
 }

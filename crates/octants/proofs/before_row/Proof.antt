@@ -1,85 +1,48 @@
--- The sum so far is that of the rows before row i; it ends at row j or past the last row (law before-done).
-use borrow.Author.Needs.{needs}
+-- Past the last row all points; else the table's sum, or from the other end what it leaves of all.
+use mathlib.Core.Path.{_∙_, ap}
 use native.Mathlib.Omega.{arith}
-use Prim.Native.Nat.{ℕ, _≤_, _<_, _+_, _-_}
-use lib.Dec.{ltb}
-use lib.ListN.{length, getD}
-use mathlib.Core.Bool.{true, _&&_}
-use mathlib.Core.Path.{_≡_, sym, ap₂, _∙_}
-use Rattle.rules.specs.declared.{Start.Start}
-use Rattle.rules.specs.Counts.{countsOf, beforeRow}
-use Rattle.laws.proofs.Counts.{before-first, before-next, before-most}
-use Rattle.laws.proofs.Grids.{octant-few}
-use Rattle.octants.proofs.Laws.{rows-few, before-done, both-tests}
+use Prim.Native.Nat.{ℕ, _-_}
+use borrow.Author.Needs.{needs}
+use Rattle.rules.specs.Bounds.{octantRows, octantPoints}
+use Rattle.octants.proofs.Laws.{before-equator, before-pole, before-neither, before-few, before-last}
 use Rattle.octants.proofs.before_row.Statement.{statement}
 use Rattle.octants.proofs.before_row.Tie as tie
 
-abbrev Inv-loop : tie.InvT-loop
-Inv-loop start j high sum₀ i₀ sum i =
-    (i ≤ length (countsOf start)) × ((i ≤ j) × (sum ≡ beforeRow (countsOf start) i))
+returns : tie.Need-returns
+returns c = c .points .ensures ∙ before-last _ _ (c .before .if1 .taken)
 
-abbrev μ-loop : tie.MeasureT-loop
-μ-loop start j high sum₀ i₀ sum i = j - i
+sub-result : tie.Need-sub-result
+sub-result c =
+    let a = c .before .before .before .before .args in
+    omega (arith, c .before-equator2 .ensures, before-few (octantRows - a .j))
 
-loop-holds : tie.Need-loop-holds Inv-loop μ-loop
-loop-holds c = (omega arith, (omega arith, sym (before-first _)))
+returns-2 : tie.Need-returns-2
+returns-2 c = rw (c .before .enum-told .given .1) (c .before-equator .ensures ∙ before-equator _)
 
--- a turn's two tests, and the sum after it
-next : (start : Start) {i j n sum c : ℕ} → n ≡ length (countsOf start) → (ltb i j && ltb i n) ≡ true
-    → sum ≡ beforeRow (countsOf start) i
-    → c ≡ getD (countsOf start) i 0
-    → (i < j) × ((i < length (countsOf start)) × ((sum + c ≡ beforeRow (countsOf start) (i + 1)) × (sum + c ≤ 3447)))
-next start {i} {j} {n} {sum} {c} en t es ec =
-    let counts = countsOf start in
-    let l = both-tests i j i n t in
-    let e : i < length counts = omega (arith, l .1, en) in
-    let s : sum + c ≡ beforeRow counts (i + 1) = ap₂ (λ (x y : ℕ). x + y) es ec ∙ sym (before-next counts i e) in
-    (l .0, (e, (s, omega (arith, s, before-most counts (i + 1), octant-few start))))
+returns-3 : tie.Need-returns-3
+returns-3 c =
+    rw (c .before .enum-told2 .given .1)
+    (ap (λ (x : ℕ). octantPoints - x) (c .before-equator2 .ensures) ∙ before-pole _ (search needs))
 
-add-sum : tie.Need-add-sum Inv-loop μ-loop
-add-sum c =
-    let b = c .before .before in
-    let start = b .before .before .args .start in
-    let p = next start (b .before .rows .ensures) (c .before .loop-test .taken) (b .loop .inv .1 .1) (c .count .ensures) in
-    record { fits = omega (arith, p .1 .1 .1) }
-
-add-i : tie.Need-add-i Inv-loop μ-loop
-add-i c =
-    let b = c .before .before in
-    let start = b .before .before .args .start in
-    let p = next start (b .before .rows .ensures) (c .before .loop-test .taken) (b .loop .inv .1 .1) (c .count .ensures) in
-    record { fits = omega (arith, p .1 .0, rows-few start) }
-
-loop-less : tie.Need-loop-less Inv-loop μ-loop
-loop-less c =
-    let b = c .before .before in
-    let start = b .before .before .args .start in
-    let p = next start (b .before .rows .ensures) (c .before .loop-test .taken) (b .loop .inv .1 .1) (c .count .ensures) in
-    omega (arith, p .0)
-
-loop-again : tie.Need-loop-again Inv-loop μ-loop
-loop-again c =
-    let b = c .before .before in
-    let start = b .before .before .args .start in
-    let p = next start (b .before .rows .ensures) (c .before .loop-test .taken) (b .loop .inv .1 .1) (c .count .ensures) in
-    (omega (arith, p .1 .0), (omega (arith, p .0), p .1 .1 .0))
-
-returns : tie.Need-returns Inv-loop μ-loop
-returns c =
-    let l = c .before .loop in
-    l .inv .1 .1 ∙ before-done _ _ _ _ (c .before .before .rows .ensures) (l .inv .0) (l .inv .1 .0) (c .loop-test .left)
+returns-4 : tie.Need-returns-4
+returns-4 c = rw (c .enum-told3 .given .1) (before-neither _)
 
 pub before-row-spec : {M : Type 1} → statement M
 before-row-spec =
     tie.close
     (tie.spec
-    Inv-loop
-    μ-loop
     (λ c κs. search needs)
-    loop-holds
+    returns
+    (λ c. search needs)
     (λ c κs. search needs)
-    add-sum
-    add-i
-    loop-less
-    loop-again
-    returns)
+    (λ c. search needs)
+    (λ c. search needs)
+    (λ c. search needs)
+    (λ c. search needs)
+    (λ c κs. search needs)
+    (λ c. search needs)
+    sub-result
+    (λ c. search needs)
+    returns-2
+    returns-3
+    returns-4)

@@ -1,4 +1,5 @@
-//! The files that `write_vectors` is run on: a group of vectors in each.
+//! The files that `write_vectors` is run on, a group of vectors in each; and what those of
+//! `read_vectors` and `cursor_vectors` have like them.
 
 use crate::{BitmapKind, Form, Lent};
 
@@ -9,6 +10,22 @@ const RUNS: usize = 7_168;
 pub fn three(number: usize) -> Vec<u8> {
     assert!(number < 1 << 24);
     (number as u32).to_be_bytes()[1..].to_vec()
+}
+
+/// Where the longest run of zero octets starts and ends; at the message's end
+/// where none has 64.
+pub fn longest_zeros(octets: &[u8]) -> (usize, usize) {
+    let mut longest = (octets.len(), octets.len());
+    let mut start = 0;
+    for place in 0..octets.len() {
+        let run = place + 1 - start;
+        if octets[place] != 0 {
+            start = place + 1;
+        } else if run >= 64 && run > longest.1 - longest.0 {
+            longest = (start, place + 1);
+        }
+    }
+    longest
 }
 
 /// A number with its sign: one below 0 as 2^31 and how far it is below -1.

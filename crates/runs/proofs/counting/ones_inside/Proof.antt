@@ -1,14 +1,14 @@
 -- The invariant: the total is the count of the octets passed, eight or one a turn.
-use mathlib.Core.Path.{_≡_, refl, sym, ap, ap₂, _∙_}
+use mathlib.Core.Path.{_≡_, refl, sym, ap, _∙_}
 use lib.ListN.{getD}
 use lib.Count.{ones}
 use Rattle.bits.specs.Bits.{bitsIn, count}
 use Rattle.bits.proofs.Runs.{bitsIn-bits}
-use Rattle.bits.proofs.Ones.{count-le}
-use Rattle.bits.proofs.Ones.{count-octet, count-eight}
+use Rattle.bits.proofs.Ones.{count-le, count-octet}
 use borrow.Author.Needs.{needs}
 use native.Mathlib.Omega.{arith}
 use Prim.Native.Nat.{ℕ, _≤_, _+_, _-_, _*_}
+use Rattle.runs.proofs.Tallies.{then}
 use Rattle.runs.proofs.counting.ones_inside.Statement.{statement}
 use Rattle.runs.proofs.counting.ones_inside.Tie as tie
 
@@ -28,14 +28,16 @@ loop-holds : tie.Need-loop-holds Inv-loop μ-loop Inv-loop2 μ-loop2
 unfolding count
 loop-holds c = (omega arith, refl)
 
-eight : (c : tie.After-word8 Inv-loop μ-loop Inv-loop2 μ-loop2) →
+eight : (c : tie.After-reversed8 Inv-loop μ-loop Inv-loop2 μ-loop2) →
     let a = c .before .before .before .before .args in
-    c .before .before .loop .total + ones (c .word8 .result)
+    c .before .before .loop .total + ones (c .reversed8 .result)
     ≡ count (bitsIn 8 (a .s .now)) (a .p * 8) ((c .before .before .loop .j + 8) * 8)
 eight c =
     let l = c .before .before .loop in
     let a = c .before .before .before .before .args in
-    ap₂ (λ (x y : ℕ). x + ones y) (l .inv .1) (c .word8 .ensures) ∙ sym (count-eight (a .s .now) (a .p) (l .j))
+    let e : l .j * 8 + 64 ≡ (l .j + 8) * 8 = omega arith in
+    then (a .s .now) (a .p) (l .j) 64 _ _ (l .inv .1) (c .reversed8 .ensures)
+    ∙ ap (count (bitsIn 8 (a .s .now)) (a .p * 8)) e
 
 add-total : tie.Need-add-total Inv-loop μ-loop Inv-loop2 μ-loop2
 add-total c =

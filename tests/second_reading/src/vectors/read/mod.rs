@@ -36,7 +36,7 @@ mod years;
 
 pub(super) use pairs::{with, with_e, with_lengths};
 
-use super::files::three;
+use super::files::{longest_zeros, three};
 use crate::again::first_changed;
 use crate::grid::{place_of, GAUSSIAN, LAMBERT, MERCATOR, POLAR};
 use crate::read::read;
@@ -355,22 +355,6 @@ fn kind_name(kind: u8) -> Option<&'static str> {
     let kinds = [MERCATOR, LAMBERT, GAUSSIAN, POLAR];
     let which = kinds.iter().position(|&own| own == kind)?;
     Some(["mercator", "lambert", "gaussian", "polar"][which])
-}
-
-/// Where the longest run of zero octets starts and ends; at the message's end
-/// where none has 64.
-fn longest_zeros(octets: &[u8]) -> (usize, usize) {
-    let mut longest = (octets.len(), octets.len());
-    let mut start = 0;
-    for place in 0..octets.len() {
-        let run = place + 1 - start;
-        if octets[place] != 0 {
-            start = place + 1;
-        } else if run >= 64 && run > longest.1 - longest.0 {
-            longest = (start, place + 1);
-        }
-    }
-    longest
 }
 
 /// The n values and marks as one number: from 1 on, 16,777,619 times the sum, and
