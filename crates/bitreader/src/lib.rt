@@ -9,21 +9,21 @@ use rules::bounds::BDS_HEAD;
 use runs::{fetch, unpack};
 
 // The data octets, and the bit place reached in them.
-#[derive(Drop)]
+#[derive(Clone, Copy)]
 pub struct BitReader<'a> {
     data: &'a [u8],
     at: u32,
 }
 
 // A number taken, and the place reached after it.
-#[derive(Drop)]
+#[derive(Clone, Copy)]
 pub struct Taken {
     pub value: u32,
     pub at: u32,
 }
 
 // Whether many numbers were taken, and the place reached after them; where it was if they were not.
-#[derive(Drop)]
+#[derive(Clone, Copy)]
 pub struct TakenAll {
     pub fits: bool,
     pub at: u32,

@@ -16,7 +16,7 @@ pub const BLOCK: usize = 256;
 pub const ROOM: usize = 512;
 
 // The octet where the next block goes, and how many values are held for it.
-#[derive(Drop)]
+#[derive(Clone, Copy)]
 pub struct Progress {
     pub place: usize,
     pub held: usize,

@@ -11,7 +11,7 @@ use octets::plain;
 use rules::{Edges, Entry, Figures, Found, Grid, Signed};
 
 // A row of the table.
-#[derive(Drop)]
+#[derive(Clone, Copy)]
 struct Numbers {
     number: u8,
     ni: u16,

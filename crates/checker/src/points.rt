@@ -55,7 +55,7 @@ fn next_few(left: usize) -> usize
 }
 
 // Whether one of so many points is out, and the bit place reached in the data after their X.
-#[derive(Drop)]
+#[derive(Clone, Copy)]
 struct Turn {
     out: bool,
     at: u32,

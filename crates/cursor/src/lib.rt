@@ -20,7 +20,7 @@ use rules::{Bitmap, Indexed, Pointed, Refusal, Spot, UnderCursor};
 use runs::{bit, ones, ones_256, ones_few};
 
 // What a group's bits say of one of its points: the ones among all, the ones before the point, and its own bit.
-#[derive(Drop)]
+#[derive(Clone, Copy)]
 struct Group {
     all: u32,
     before: u32,

@@ -12,11 +12,11 @@ use rules::{Bitmap, GridPoint};
 use runs::{bit, ones};
 
 // A present point's number among the present ones.
-#[derive(Drop)]
+#[derive(Clone, Copy)]
 pub struct DataPoint(u32);
 
 // What is said of a grid point.
-#[derive(Drop)]
+#[derive(Clone, Copy)]
 pub enum Numbered {
     Present(DataPoint),
     Absent,

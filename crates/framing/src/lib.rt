@@ -20,7 +20,7 @@ use rules::{Form, Found, Scale, Written};
 use writable::{judge_marks, scale_bad};
 
 // Where the data begin, how many points are present, and how long the message is. Zeros where nothing was laid down.
-#[derive(Drop)]
+#[derive(Clone, Copy)]
 pub struct Frame {
     pub at: usize,
     pub present: u32,

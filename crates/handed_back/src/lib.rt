@@ -10,7 +10,7 @@ use message::header;
 use rules::{Bitmap, Part, Places};
 
 // The bitmap in force: a part of the store, or else of the message.
-#[derive(Drop)]
+#[derive(Clone, Copy)]
 pub struct Force {
     pub stored: bool,
     pub part: Part,

@@ -10,7 +10,7 @@ use handed_back::Force;
 use records::PartRecord;
 
 #[repr(C)]
-#[derive(Drop)]
+#[derive(Clone, Copy)]
 pub struct DataRecord {
     pub kind: u32,
     pub data_number: u32,

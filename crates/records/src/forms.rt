@@ -9,7 +9,7 @@ use octets::plain;
 use rules::{Bitmap, Figures, Form, Found, Grid, Packing, Scale};
 
 #[repr(C)]
-#[derive(Drop)]
+#[derive(Clone, Copy)]
 pub struct FormRecord {
     pub given: u32,
     pub bitmap: u32,

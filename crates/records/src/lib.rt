@@ -16,7 +16,7 @@ use rules::{
 
 // A part of the message (stored 0) or of the lent bitmap (stored 1).
 #[repr(C)]
-#[derive(Drop)]
+#[derive(Clone, Copy)]
 pub struct PartRecord {
     pub stored: u32,
     pub start: u32,
@@ -25,7 +25,7 @@ pub struct PartRecord {
 
 // A grid of any kind; what its kind does not have is zero.
 #[repr(C)]
-#[derive(Drop)]
+#[derive(Clone, Copy)]
 pub struct GridRecord {
     pub la1: i32,
     pub lo1: i32,
@@ -51,7 +51,7 @@ pub struct GridRecord {
 }
 
 #[repr(C)]
-#[derive(Drop)]
+#[derive(Clone, Copy)]
 pub struct HeaderRecord {
     pub reply: u32,
     pub section: u32,
@@ -78,7 +78,7 @@ pub struct HeaderRecord {
 }
 
 #[repr(C)]
-#[derive(Drop)]
+#[derive(Clone, Copy)]
 pub struct PlaceRecord {
     pub on: u32,
     pub row: u32,
@@ -86,14 +86,14 @@ pub struct PlaceRecord {
 }
 
 #[repr(C)]
-#[derive(Drop)]
+#[derive(Clone, Copy)]
 pub struct PointRecord {
     pub on: u32,
     pub point: u32,
 }
 
 #[repr(C)]
-#[derive(Drop)]
+#[derive(Clone, Copy)]
 pub struct DisplayRecord {
     pub reply: u32,
     pub section: u32,
@@ -103,14 +103,14 @@ pub struct DisplayRecord {
 }
 
 #[repr(C)]
-#[derive(Drop)]
+#[derive(Clone, Copy)]
 pub struct WrittenRecord {
     pub reply: u32,
     pub len: u32,
 }
 
 #[repr(C)]
-#[derive(Drop)]
+#[derive(Clone, Copy)]
 pub struct CheckRecord {
     pub reply: u32,
     pub section: u32,
@@ -118,7 +118,7 @@ pub struct CheckRecord {
 }
 
 #[repr(C)]
-#[derive(Drop)]
+#[derive(Clone, Copy)]
 pub struct IndexedRecord {
     pub reply: u32,
     pub section: u32,
@@ -127,7 +127,7 @@ pub struct IndexedRecord {
 }
 
 #[repr(C)]
-#[derive(Drop)]
+#[derive(Clone, Copy)]
 pub struct CursorRecord {
     pub reply: u32,
     pub section: u32,

@@ -21,14 +21,14 @@ const BLOCK: usize = 256;
 const LEAST: i32 = -2147483648;
 
 // R and E as whole numbers; E is 25 where none of 0 to 24 serves.
-#[derive(Drop)]
+#[derive(Clone, Copy)]
 pub struct Choice {
     pub reference: i32,
     pub exponent: u8,
 }
 
 // Whether a point is marked, the least present number and the greatest; SOURCE_MOST and LEAST where none is present.
-#[derive(Drop)]
+#[derive(Clone, Copy)]
 struct Extremes {
     marked: bool,
     low: i32,
