@@ -34,7 +34,7 @@ neg_back m h = rw (neg_of m h) (to_z-of_z (neg_fits m h))
 pub back : (half v b : ℕ) (r : ℤ) → v ≡ b → r ≡ cond (ltb v half) (pos v) (neg_ℤ (pos (v - half))) → mag r < 2147483648
     → to_z w32 (of_z w32 r) ≡ cond (ltb b half) (pos b) (neg_ℤ (pos (b - half)))
 back half v b r e f h =
-    to_z-of_z (record { sfits = h }) ∙ f ∙ ap (λ (x : ℕ). cond (ltb x half) (pos x) (neg_ℤ (pos (x - half)))) e
+    to_z-of_z {w = w32} (record { sfits = h }) ∙ f ∙ ap (λ (x : ℕ). cond (ltb x half) (pos x) (neg_ℤ (pos (x - half)))) e
 
 -- a signed field of a number handed on in 32 bits
 pub kept : (z : ℤ) (r : Signed) → r ≡ plain (to_z w32 (of_z w32 z)) → SFits w32 z → r ≡ plain z

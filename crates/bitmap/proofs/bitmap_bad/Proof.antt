@@ -5,17 +5,17 @@ use borrow.Author.Rules.{rules}
 use Rattle.bitmap.proofs.bitmap_bad.Statement.{statement}
 use Rattle.bitmap.proofs.bitmap_bad.Tie as tie
 
-returns : tie.Need-returns
+returns : tie.Need-returns-in-Without
 unfolding any_of bitmap_faults
-returns c = rw c.enum_told.given.1
+returns c = rw c.in-Without.is
 
-returns-2 : tie.Need-returns-2
+returns-2 : tie.Need-returns-in-Carried
 unfolding bitmap_faults
-returns-2 c = rw c.before.enum-told2.given.1 c.carried-bad.ensures
+returns-2 c = rw c.in-Carried.is c.carried_bad.ensures
 
-returns-3 : tie.Need-returns-3
+returns-3 : tie.Need-returns-in-Stored
 unfolding bitmap_faults
-returns-3 c = rw c.before.before.bitmap.given.1 c.stored-bad.ensures
+returns-3 c = rw c.in-Stored.is c.stored_bad.ensures
 
 pub bitmap_bad_spec : {M : Type 1} → statement M
 bitmap_bad_spec =

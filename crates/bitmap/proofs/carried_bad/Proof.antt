@@ -7,7 +7,7 @@ use Rattle.bitmap.proofs.carried_bad.Tie as tie
 
 returns : tie.Need-returns
 unfolding any_of or_all bitmap_faults
-returns c = rw (c.less.ensures, c.before.octet.ensures)
+returns c = rw (c.less.ensures, c.octet-unused.ensures)
 
 pub carried_bad_spec : {M : Type 1} → statement M
 carried_bad_spec =

@@ -5,13 +5,13 @@ use borrow.Author.Rules.{rules}
 use Rattle.bitreader.proofs.reached.Statement.{statement}
 use Rattle.bitreader.proofs.reached.Tie as tie
 
-returns : tie.Need-returns
+returns : tie.Need-returns-then-far-le4294967295
 unfolding reached
-returns c = simp (le-leb _ _ c.if1.true)
+returns c = simp (le-leb _ _ c.if-far-le4294967295.true)
 
-returns-2 : tie.Need-returns-2
+returns-2 : tie.Need-returns
 unfolding reached
-returns-2 c = simp (lt-leb _ _ c.if1.false)
+returns-2 c = simp (lt-leb _ _ c.if-far-le4294967295.false)
 
 pub reached_spec : {M : Type 1} → statement M
 reached_spec = tie.close (tie.spec (λ c. search rules) (λ c. search rules) returns returns-2)

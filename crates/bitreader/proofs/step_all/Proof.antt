@@ -6,32 +6,30 @@ use Rattle.bitreader.proofs.Many.{bits-few, all-taken, none-taken}
 use Rattle.bitreader.proofs.step_all.Statement.{statement}
 use Rattle.bitreader.proofs.step_all.Tie as tie
 
-mul-reached : tie.Need-overflow-mul-reached
+mul-reached : tie.Need-overflow_mul-m
 mul-reached c =
-    let a = c.before.before.before.before.before.before.before.args in
+    let a = c.args in
     let few : a.m * a.n < 2 ^ 63 = bits-few a.m a.n (omega arith) (omega arith) in
     record { fits = omega (arith, few) }
 
 reached-requires : tie.Need-reached-requires
 reached-requires c κs =
-    let a = c.before.before.before.before.before.before.before.args in
+    let a = c.args in
     let few : a.m * a.n < 2 ^ 63 = bits-few a.m a.n (omega arith) (omega arith) in
     omega (arith, few)
 
-returns : tie.Need-returns
+returns : tie.Need-returns-then-unpack
 returns c =
-    let unpack = c.before.before.before.before in
-    let a = unpack.before.before.before.before.args in (
-      all-taken a.at a.n a.m _ _ unpack.unpack.ensures.0 c.before.if1.true _ c.reached.ensures,
-      unpack.unpack.ensures.1,
+    let a = c.args in (
+      all-taken a.at a.n a.m _ _ c.unpack.ensures.0 c.if-unpack.true _ c.reached.ensures,
+      c.unpack.ensures.1,
     )
 
-returns-2 : tie.Need-returns-2
+returns-2 : tie.Need-returns
 returns-2 c =
-    let unpack = c.before.before.before in
-    let a = unpack.before.before.before.before.args in (
-      none-taken a.at a.n a.m _ _ unpack.unpack.ensures.0 c.if1.false,
-      unpack.unpack.ensures.1,
+    let a = c.args in (
+      none-taken a.at a.n a.m _ _ c.unpack.ensures.0 c.if-unpack.false,
+      c.unpack.ensures.1,
     )
 
 pub step_all_spec : {M : Type 1} → statement M

@@ -8,14 +8,12 @@ use Rattle.catalogue.proofs.differs.Tie as tie
 returns : tie.Need-returns
 unfolding any_of or_all grid_differs
 returns c =
-    let corners = c.before.before.before.before.before in
-    let figures = corners.before.before.before.before.before.before in
     rw (
-      c.figures-differ.ensures,
-      corners.apart2.ensures,
-      corners.before.apart.ensures,
-      figures.figures-of2.ensures,
-      figures.before.figures-of.ensures,
+      c.figures_differ.ensures,
+      c.apart-2.ensures,
+      c.apart.ensures,
+      c.figures_of-y.ensures,
+      c.figures_of-x.ensures,
     )
 
 pub differs_spec : {M : Type 1} → statement M

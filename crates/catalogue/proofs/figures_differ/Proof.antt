@@ -8,16 +8,14 @@ use Rattle.catalogue.proofs.figures_differ.Tie as tie
 returns : tie.Need-returns
 unfolding any_of or_all the_figures_differ
 returns c =
-    let five = c.before.before.before.before in
-    let two = five.before.before.before.before.before.before.before.before.before.before.before.before.before in
     rw (
-      five.apart7.ensures,
-      five.before.apart6.ensures,
-      five.before.before.apart5.ensures,
-      five.before.before.before.apart4.ensures,
-      five.before.before.before.before.apart3.ensures,
-      two.apart2.ensures,
-      two.before.apart.ensures,
+      c.apart-7.ensures,
+      c.apart-6.ensures,
+      c.apart-5.ensures,
+      c.apart-4.ensures,
+      c.apart-3.ensures,
+      c.apart-2.ensures,
+      c.apart.ensures,
     )
 
 pub figures_differ_spec : {M : Type 1} → statement M

@@ -9,15 +9,14 @@ use borrow.Author.Rules.{rules}
 use Rattle.chart.proofs.across.Statement.{statement}
 use Rattle.chart.proofs.across.Tie as tie
 
-returns : tie.Need-returns
+returns : tie.Need-returns-then-r-high
 returns c =
-    let scan = c.before.before.before.before.args.scan in
-    let high = c.before.before.before in
-    across_in _ _ _ _ high.rows.ensures c.before.before.if1.true _
-    (rw (c.count.ensures, c.before.turned.ensures, high.rows.ensures, bit_2 scan))
+    let scan = c.args.scan in
+    across_in _ _ _ _ c.rows-high.ensures c.if-r-high.true _
+    (rw (c.count.ensures, c.turned.ensures, c.rows-high.ensures, bit_2 scan))
 
-returns-2 : tie.Need-returns-2
-returns-2 c = across-out _ _ _ _ c.before.rows.ensures c.if1.false
+returns-2 : tie.Need-returns
+returns-2 c = across-out _ _ _ _ c.rows-high.ensures c.if-r-high.false
 
 pub across_spec : {M : Type 1} → statement M
 across_spec =

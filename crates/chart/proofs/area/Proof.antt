@@ -5,7 +5,7 @@ use borrow.Author.Rules.{rules}
 use Rattle.chart.proofs.area.Statement.{statement}
 use Rattle.chart.proofs.area.Tie as tie
 
-mul-result : tie.Need-overflow-mul-result
+mul-result : tie.Need-overflow_mul-result
 mul-result c = record { fits = product 65535 65535 4294967296 tt _ _ (omega arith) (omega arith) }
 
 pub area_spec : {M : Type 1} → statement M

@@ -5,11 +5,11 @@ use borrow.Author.Rules.{rules}
 use Rattle.chart.proofs.columns_on.Statement.{statement}
 use Rattle.chart.proofs.columns_on.Tie as tie
 
-returns : tie.Need-returns
-returns c = even-columns _ _ c.before.before.g.given.1 _ refl
+returns : tie.Need-returns-in-Even
+returns c = even-columns _ _ c.in-Even.is _ refl
 
-returns-2 : tie.Need-returns-2
-returns-2 c = uneven-columns _ _ c.enum_told.given.1
+returns-2 : tie.Need-returns-in-Uneven
+returns-2 c = uneven-columns _ _ c.in-Uneven.is
 
 pub columns_on_spec : {M : Type 1} → statement M
 columns_on_spec =

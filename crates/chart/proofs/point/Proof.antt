@@ -7,26 +7,26 @@ use borrow.Author.Rules.{rules}
 use Rattle.chart.proofs.point.Statement.{statement}
 use Rattle.chart.proofs.point.Tie as tie
 
-mul-pick : tie.Need-overflow-mul-pick
-mul-pick c = record { fits = (columns-fit _ _ _ _ _ _ _ _ c.before.turned.ensures c.turned2.ensures c.before.before.requires.0 c.before.before.requires.1 (omega arith) (omega arith)).0 }
+mul-pick : tie.Need-overflow_mul-i
+mul-pick c = record { fits = (columns-fit _ _ _ _ _ _ _ _ c.turned-j.ensures c.turned-i.ensures c.requires.0 c.requires.1 (omega arith) (omega arith)).0 }
 
-add-pick : tie.Need-overflow-add-pick
-add-pick c = record { fits = (columns-fit _ _ _ _ _ _ _ _ c.before.turned.ensures c.turned2.ensures c.before.before.requires.0 c.before.before.requires.1 (omega arith) (omega arith)).1 }
+add-pick : tie.Need-overflow_add-i
+add-pick c = record { fits = (columns-fit _ _ _ _ _ _ _ _ c.turned-j.ensures c.turned-i.ensures c.requires.0 c.requires.1 (omega arith) (omega arith)).1 }
 
-mul-pick-2 : tie.Need-overflow-mul-pick-2
-mul-pick-2 c = record { fits = (rows_fit _ _ _ _ _ _ _ _ c.before.turned.ensures c.turned2.ensures c.before.before.requires.0 c.before.before.requires.1 (omega arith) (omega arith)).0 }
+mul-pick-2 : tie.Need-overflow_mul-j
+mul-pick-2 c = record { fits = (rows_fit _ _ _ _ _ _ _ _ c.turned-j.ensures c.turned-i.ensures c.requires.0 c.requires.1 (omega arith) (omega arith)).0 }
 
-add-pick-2 : tie.Need-overflow-add-pick-2
-add-pick-2 c = record { fits = (rows_fit _ _ _ _ _ _ _ _ c.before.turned.ensures c.turned2.ensures c.before.before.requires.0 c.before.before.requires.1 (omega arith) (omega arith)).1 }
+add-pick-2 : tie.Need-overflow_add-j
+add-pick-2 c = record { fits = (rows_fit _ _ _ _ _ _ _ _ c.turned-j.ensures c.turned-i.ensures c.requires.0 c.requires.1 (omega arith) (omega arith)).1 }
 
 returns : tie.Need-returns
 unfolding point_of
 returns c =
-    let scan = c.before.before.before.args.scan in
+    let scan = c.args.scan in
     rw (
       c.pick.ensures,
-      c.before.turned2.ensures,
-      c.before.before.turned.ensures,
+      c.turned-i.ensures,
+      c.turned-j.ensures,
       bit_1 scan (omega arith),
       bit_2 scan,
       bit_3 scan,

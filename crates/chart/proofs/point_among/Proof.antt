@@ -11,18 +11,17 @@ use borrow.Author.Rules.{rules}
 use Rattle.chart.proofs.point_among.Statement.{statement}
 use Rattle.chart.proofs.point_among.Tie as tie
 
-add-result : tie.Need-overflow-add-result
+add-result : tie.Need-overflow_add-result
 unfolding the_point_among
 add-result c =
-    let b = c.before.before.before.before.before in
-    let a = b.args in
-    let l = among-lt _ a.scan a.c b.requires.0 b.requires.1 in
-    let e : c.before-row.result + c.before.turned2.result ≡ the_point_among (counts_of a.start) a.scan a.c = rw (
-      c.before-row.ensures,
-      c.before.turned2.ensures,
-      c.before.before.turned.ensures,
-      c.before.before.before.rows.ensures,
-      c.before.before.before.before.across.ensures,
+    let a = c.args in
+    let l = among-lt _ a.scan a.c c.requires.0 c.requires.1 in
+    let e : c.before_row.result + c.turned-i.result ≡ the_point_among (counts_of a.start) a.scan a.c = rw (
+      c.before_row.ensures,
+      c.turned-i.ensures,
+      c.turned-j.ensures,
+      c.rows.ensures,
+      c.across-long.ensures,
       bit_1 a.scan (omega arith),
       bit_2 a.scan,
     ) in
@@ -31,13 +30,13 @@ add-result c =
 returns : tie.Need-returns
 unfolding the_point_among
 returns c =
-    let scan = c.before.before.before.before.before.args.scan in
+    let scan = c.args.scan in
     rw (
-      c.before-row.ensures,
-      c.before.turned2.ensures,
-      c.before.before.turned.ensures,
-      c.before.before.before.rows.ensures,
-      c.before.before.before.before.across.ensures,
+      c.before_row.ensures,
+      c.turned-i.ensures,
+      c.turned-j.ensures,
+      c.rows.ensures,
+      c.across-long.ensures,
       bit_1 scan (omega arith),
       bit_2 scan,
     )

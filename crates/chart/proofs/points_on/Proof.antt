@@ -4,11 +4,11 @@ use borrow.Author.Rules.{rules}
 use Rattle.chart.proofs.points_on.Statement.{statement}
 use Rattle.chart.proofs.points_on.Tie as tie
 
-returns : tie.Need-returns
-returns c = even-points _ _ c.before.before.g.given.1 _ c.area.ensures
+returns : tie.Need-returns-in-Even
+returns c = even-points _ _ c.in-Even.is _ c.area.ensures
 
-returns-2 : tie.Need-returns-2
-returns-2 c = uneven-points _ _ c.before.before.g2.given.1 _ c.points.ensures
+returns-2 : tie.Need-returns-in-Uneven
+returns-2 c = uneven-points _ _ c.in-Uneven.is _ c.points.ensures
 
 pub points_on_spec : {M : Type 1} → statement M
 points_on_spec =

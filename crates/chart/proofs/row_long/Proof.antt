@@ -4,11 +4,11 @@ use borrow.Author.Rules.{rules}
 use Rattle.chart.proofs.row_long.Statement.{statement}
 use Rattle.chart.proofs.row_long.Tie as tie
 
-returns : tie.Need-returns
-returns c = even-long _ _ c.before.before.before.before.g.given.1 _ _ c.pick.ensures
+returns : tie.Need-returns-in-Even
+returns c = even-long _ _ c.in-Even.is _ _ c.pick.ensures
 
-returns-2 : tie.Need-returns-2
-returns-2 c = uneven-long _ _ c.before.before.g2.given.1 _ _ c.across.ensures
+returns-2 : tie.Need-returns-in-Uneven
+returns-2 c = uneven-long _ _ c.in-Uneven.is _ _ c.across.ensures
 
 pub row_long_spec : {M : Type 1} → statement M
 row_long_spec =

@@ -5,11 +5,11 @@ use borrow.Author.Rules.{rules}
 use Rattle.chart.proofs.rows_on.Statement.{statement}
 use Rattle.chart.proofs.rows_on.Tie as tie
 
-returns : tie.Need-returns
-returns c = even-rows _ _ c.before.before.g.given.1 _ refl
+returns : tie.Need-returns-in-Even
+returns c = even-rows _ _ c.in-Even.is _ refl
 
-returns-2 : tie.Need-returns-2
-returns-2 c = uneven-rows _ _ c.before.before.g2.given.1 _ c.rows.ensures
+returns-2 : tie.Need-returns-in-Uneven
+returns-2 c = uneven-rows _ _ c.in-Uneven.is _ c.rows.ensures
 
 pub rows_on_spec : {M : Type 1} → statement M
 rows_on_spec =

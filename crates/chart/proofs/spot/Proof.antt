@@ -9,12 +9,12 @@ use Rattle.chart.proofs.spot.Tie as tie
 returns : tie.Need-returns
 unfolding spot_of
 returns c =
-    let scan = c.before.before.before.before.args.scan in
+    let scan = c.args.scan in
     rw (
-      c.turned2.ensures,
-      c.before.turned.ensures,
-      c.before.before.pick2.ensures,
-      c.before.before.before.pick.ensures,
+      c.turned-2.ensures,
+      c.turned.ensures,
+      c.pick-column.ensures,
+      c.pick-row.ensures,
       bit_1 scan (omega arith),
       bit_2 scan,
       bit_3 scan,

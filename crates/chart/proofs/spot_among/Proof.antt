@@ -9,13 +9,13 @@ use Rattle.chart.proofs.spot_among.Tie as tie
 returns : tie.Need-returns
 unfolding the_spot_among
 returns c =
-    let scan = c.before.before.before.before.before.args.scan in
+    let scan = c.args.scan in
     rw (
-      c.turned2.ensures,
-      c.before.turned.ensures,
-      c.before.before.rows.ensures,
-      c.before.before.before.count.ensures,
-      c.before.before.before.before.scanned.ensures,
+      c.turned-2.ensures,
+      c.turned.ensures,
+      c.rows.ensures,
+      c.count-long.ensures,
+      c.scanned-at.ensures,
       bit_1 scan (omega arith),
       bit_2 scan,
     )

@@ -4,20 +4,17 @@ use borrow.Author.Rules.{rules}
 use Rattle.chart.proofs.spot_of.Statement.{statement}
 use Rattle.chart.proofs.spot_of.Tie as tie
 
-spot-on-requires : tie.Need-spot-on-requires
+spot-on-requires : tie.Need-spot_on-requires
 spot-on-requires c κs =
-    let b = c.before.before in
-    one_of b.before.args.g b.before.args.k _ b.Points-on.ensures c.if1.true
+    one_of c.args.g c.args.k _ c.points_on.ensures c.if-k-points_on.true
 
-returns : tie.Need-returns
+returns : tie.Need-returns-then-k-points_on
 returns c =
-    let b = c.before.before.before in
-    on b.before.args.g b.before.args.k _ b.Points-on.ensures c.before.if1.true _ c.Spot-on.ensures
+    on c.args.g c.args.k _ c.points_on.ensures c.if-k-points_on.true _ c.spot_on.ensures
 
-returns-2 : tie.Need-returns-2
+returns-2 : tie.Need-returns
 returns-2 c =
-    let b = c.before.before in
-    off b.before.args.g b.before.args.k _ b.Points-on.ensures c.if1.false
+    off c.args.g c.args.k _ c.points_on.ensures c.if-k-points_on.false
 
 pub spot_of_spec : {M : Type 1} → statement M
 spot_of_spec =

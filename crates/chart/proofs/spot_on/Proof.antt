@@ -6,14 +6,13 @@ use Rattle.chart.proofs.spot_on.Tie as tie
 
 spot-requires : tie.Need-spot-requires
 spot-requires c κs =
-    let b = c.before.before.before in
-    sides _ _ b.g.given.1 _ b.before.before.requires
+    sides _ _ c.in-Even.is _ c.requires
 
-returns : tie.Need-returns
-returns c = even_spot _ _ c.before.before.before.before.g.given.1 _ _ c.spot.ensures
+returns : tie.Need-returns-in-Even
+returns c = even_spot _ _ c.in-Even.is _ _ c.spot.ensures
 
-returns-2 : tie.Need-returns-2
-returns-2 c = uneven_spot _ _ c.before.before.g2.given.1 _ _ c.spot-among.ensures
+returns-2 : tie.Need-returns-in-Uneven
+returns-2 c = uneven_spot _ _ c.in-Uneven.is _ _ c.spot_among.ensures
 
 pub spot_on_spec : {M : Type 1} → statement M
 spot_on_spec =

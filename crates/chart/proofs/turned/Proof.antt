@@ -6,7 +6,7 @@ use Rattle.chart.proofs.turned.Tie as tie
 
 returns : tie.Need-returns
 unfolding turned
-returns c = rw (c.pick.ensures, c.before.less2.ensures, c.before.before.less.ensures)
+returns c = rw (c.pick.ensures, c.less-2.ensures, c.less.ensures)
 
 pub turned_spec : {M : Type 1} → statement M
 turned_spec = tie.close (tie.spec (λ c κs. search rules) (λ c κs. search rules) (λ c κs. search rules) returns)

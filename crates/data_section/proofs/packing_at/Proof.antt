@@ -6,7 +6,7 @@ use Rattle.data_section.proofs.packing_at.Tie as tie
 
 returns : tie.Need-returns
 unfolding the_packing_at
-returns c = rw (c.octet2.ensures, c.before.octet.ensures)
+returns c = rw (c.octet-2.ensures, c.octet.ensures)
 
 pub packing_at_spec : {M : Type 1} → statement M
 packing_at_spec = tie.close (tie.spec (λ c κs. search rules) (λ c κs. search rules) returns)

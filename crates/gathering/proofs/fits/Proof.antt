@@ -4,11 +4,11 @@ use Rattle.gathering.proofs.Here.{fits_after, fits-none}
 use Rattle.gathering.proofs.fits.Statement.{statement}
 use Rattle.gathering.proofs.fits.Tie as tie
 
-returns : tie.Need-returns
-returns c = let a = c.before.args in fits_after a.c a.room a.at a.marked (omega arith)
+returns : tie.Need-returns-then-at-marked
+returns c = let a = c.args in fits_after a.c a.room a.at a.marked (omega arith)
 
-returns-2 : tie.Need-returns-2
-returns-2 c = let a = c.before.args in fits-none a.c a.room a.at a.marked (omega arith)
+returns-2 : tie.Need-returns
+returns-2 c = let a = c.args in fits-none a.c a.room a.at a.marked (omega arith)
 
 pub fits_spec : {M : Type 1} → statement M
 fits_spec = tie.close (tie.spec returns returns-2)

@@ -6,21 +6,19 @@ use Rattle.gathering.proofs.Here.{fits_said, where_fit, where_not}
 use Rattle.gathering.proofs.gather.Statement.{statement}
 use Rattle.gathering.proofs.gather.Tie as tie
 
-gather-fitting-requires : tie.Need-gather-fitting-requires
+gather-fitting-requires : tie.Need-gather_fitting-requires
 gather-fitting-requires c κs =
-    let a = c.before.before.before.before.before.before.args in
+    let a = c.args in
     fits_said (length a.values.now) (length a.held.now) a.at (length a.marks.now)
-    (sym c.before.before.fits2.ensures ∙ c.before.if1.true)
+    (sym c.fits.ensures ∙ c.if-fits.true)
 
-returns : tie.Need-returns
+returns : tie.Need-returns-then-fits
 returns c =
-    let q = c.before.before in
-    let t = q.before.before in
-    (where_fit _ _ _ _ _ t.if1.true t.before.fits2.ensures q.gather-fitting.ensures.0, where_fit _ _ _ _ _ t.if1.true t.before.fits2.ensures q.gather-fitting.ensures.1)
+    (where_fit _ _ _ _ _ c.if-fits.true c.fits.ensures c.gather_fitting.ensures.0, where_fit _ _ _ _ _ c.if-fits.true c.fits.ensures c.gather_fitting.ensures.1)
 
-returns-2 : tie.Need-returns-2
+returns-2 : tie.Need-returns
 returns-2 c =
-    (where_not _ _ _ _ c.if1.false c.before.fits2.ensures, where_not _ _ _ _ c.if1.false c.before.fits2.ensures)
+    (where_not _ _ _ _ c.if-fits.false c.fits.ensures, where_not _ _ _ _ c.if-fits.false c.fits.ensures)
 
 pub gather_spec : {M : Type 1} → statement M
 gather_spec = tie.close (tie.spec (λ c κs. search rules) gather-fitting-requires (λ c. search rules) returns returns-2)

@@ -4,7 +4,7 @@ use Rattle.gds.proofs.admitted.Statement.{statement}
 use Rattle.gds.proofs.admitted.Tie as tie
 
 returns : tie.Need-returns
-returns c = rw (c.octet3.ensures, c.before.octet2.ensures, c.before.before.octet.ensures)
+returns c = rw (c.octet-3.ensures, c.octet-2.ensures, c.octet.ensures)
 
 pub admitted_spec : {M : Type 1} → statement M
 admitted_spec =

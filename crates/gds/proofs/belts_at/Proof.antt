@@ -6,10 +6,10 @@ use Rattle.gds.proofs.belts_at.Tie as tie
 returns : tie.Need-returns
 returns c =
     rw (
-      c.two2.ensures,
-      c.before.two.ensures,
-      c.before.before.signed-three2.ensures,
-      c.before.before.before.signed-three.ensures,
+      c.two-2.ensures,
+      c.two.ensures,
+      c.signed_three-2.ensures,
+      c.signed_three.ensures,
     )
 
 pub belts_at_spec : {M : Type 1} → statement M

@@ -6,11 +6,11 @@ use Rattle.gds.proofs.cone_at.Tie as tie
 returns : tie.Need-returns
 returns c =
     rw (
-      c.signed-three4.ensures,
-      c.before.signed-three3.ensures,
-      c.before.before.signed-three2.ensures,
-      c.before.before.before.signed-three.ensures,
-      c.before.before.before.before.plane-at.ensures,
+      c.signed_three-4.ensures,
+      c.signed_three-3.ensures,
+      c.signed_three-2.ensures,
+      c.signed_three.ensures,
+      c.plane_at.ensures,
     )
 
 pub cone_at_spec : {M : Type 1} → statement M

@@ -6,11 +6,11 @@ use Rattle.gds.proofs.cylinder_at.Tie as tie
 returns : tie.Need-returns
 returns c =
     rw (
-      c.three2.ensures,
-      c.before.three.ensures,
-      c.before.before.signed-three3.ensures,
-      c.before.before.before.signed-three2.ensures,
-      c.before.before.before.before.signed-three.ensures,
+      c.three-2.ensures,
+      c.three.ensures,
+      c.signed_three-3.ensures,
+      c.signed_three-2.ensures,
+      c.signed_three.ensures,
     )
 
 pub cylinder_at_spec : {M : Type 1} → statement M

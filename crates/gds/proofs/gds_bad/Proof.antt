@@ -9,12 +9,12 @@ returns : tie.Need-returns
 unfolding the_gds_bad any_of or_all
 returns c =
     rw (
-      c.admitted6.ensures,
-      c.before.admitted5.ensures,
-      c.before.before.admitted4.ensures,
-      c.before.before.before.admitted3.ensures,
-      c.before.before.before.before.admitted2.ensures,
-      c.before.before.before.before.before.admitted.ensures,
+      c.admitted-6.ensures,
+      c.admitted-5.ensures,
+      c.admitted-4.ensures,
+      c.admitted-3.ensures,
+      c.admitted-2.ensures,
+      c.admitted.ensures,
     )
 
 pub gds_bad_spec : {M : Type 1} → statement M

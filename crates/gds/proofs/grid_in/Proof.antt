@@ -3,8 +3,8 @@ use borrow.Author.Rules.{rules}
 use Rattle.gds.proofs.grid_in.Statement.{statement}
 use Rattle.gds.proofs.grid_in.Tie as tie
 
-returns : tie.Need-returns
-returns c = simp (c.before.if1.true, c.grid-at.ensures)
+returns : tie.Need-returns-then-there
+returns c = simp (c.if-there.true, c.grid_at.ensures)
 
 pub grid_in_spec : {M : Type 1} → statement M
 grid_in_spec =

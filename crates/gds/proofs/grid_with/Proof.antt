@@ -6,12 +6,12 @@ use Rattle.gds.proofs.grid_with.Tie as tie
 returns : tie.Need-returns
 returns c =
     rw (
-      c.octet2.ensures,
-      c.before.octet.ensures,
-      c.before.before.signed-three2.ensures,
-      c.before.before.before.signed-three.ensures,
-      c.before.before.before.before.two2.ensures,
-      c.before.before.before.before.before.two.ensures,
+      c.octet-2.ensures,
+      c.octet.ensures,
+      c.signed_three-2.ensures,
+      c.signed_three.ensures,
+      c.two-2.ensures,
+      c.two.ensures,
     )
 
 pub grid_with_spec : {M : Type 1} → statement M

@@ -7,9 +7,9 @@ returns : tie.Need-returns
 returns c =
     rw (
       c.octet.ensures,
-      c.before.three2.ensures,
-      c.before.before.three.ensures,
-      c.before.before.before.signed-three.ensures,
+      c.three-2.ensures,
+      c.three.ensures,
+      c.signed_three.ensures,
     )
 
 pub plane_at_spec : {M : Type 1} → statement M

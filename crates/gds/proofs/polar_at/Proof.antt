@@ -9,8 +9,8 @@ returns : tie.Need-returns
 unfolding grid_of_cells cells_at
 returns c =
     rw (
-      c.grid-with.ensures,
-      c.before.plane-at.ensures,
+      c.grid_with.ensures,
+      c.plane_at.ensures,
     )
 
 pub polar_at_spec : {M : Type 1} → statement M

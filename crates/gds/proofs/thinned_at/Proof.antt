@@ -7,7 +7,7 @@ use Rattle.gds.proofs.thinned_at.Tie as tie
 
 returns : tie.Need-returns
 unfolding grid_of_cells cells_at
-returns c = rw (c.grid-with.ensures, c.before.start-at.ensures, c.before.before.edges_at.ensures)
+returns c = rw (c.grid_with.ensures, c.start_at.ensures, c.edges_at.ensures)
 
 pub thinned_at_spec : {M : Type 1} → statement M
 thinned_at_spec =

@@ -4,7 +4,7 @@ use Rattle.kinds.proofs.edges_figures.Statement.{statement}
 use Rattle.kinds.proofs.edges_figures.Tie as tie
 
 returns : tie.Need-returns
-returns c = rw c.plain.ensures (search rules)
+returns c = rw c.plain-none.ensures (search rules)
 
 pub edges_figures_spec : {M : Type 1} → statement M
 edges_figures_spec = tie.close (tie.spec (λ c κs. search rules) returns)

@@ -4,25 +4,25 @@ use borrow.Author.Rules.{rules}
 use Rattle.kinds.proofs.figures_of.Statement.{statement}
 use Rattle.kinds.proofs.figures_of.Tie as tie
 
-returns : tie.Need-returns
-returns c = figures-by _ _ c.before.before.geometry.given.1 _ (latlon_figures _ _ c.edges-figures.ensures)
+returns : tie.Need-returns-in-LatLon
+returns c = figures-by _ _ c.in-LatLon.is _ (latlon_figures _ _ c.edges_figures.ensures)
 
-returns-2 : tie.Need-returns-2
+returns-2 : tie.Need-returns-in-Thinned
 returns-2 c =
-    figures-by _ _ c.before.before.before.before.geometry2.given.1 _
-    (thinned_figures _ _ c.before.start-number.ensures _ c.edges-figures2.ensures)
+    figures-by _ _ c.in-Thinned.is _
+    (thinned_figures _ _ c.start_number.ensures _ c.edges_figures-in-Thinned.ensures)
 
-returns-3 : tie.Need-returns-3
-returns-3 c = figures-by _ _ c.before.before.geometry3.given.1 _ c.cylinder-figures.ensures
+returns-3 : tie.Need-returns-in-Mercator
+returns-3 c = figures-by _ _ c.in-Mercator.is _ c.cylinder_figures.ensures
 
-returns-4 : tie.Need-returns-4
-returns-4 c = figures-by _ _ c.before.before.geometry4.given.1 _ c.cone-figures.ensures
+returns-4 : tie.Need-returns-in-Lambert
+returns-4 c = figures-by _ _ c.in-Lambert.is _ c.cone_figures.ensures
 
-returns-5 : tie.Need-returns-5
-returns-5 c = figures-by _ _ c.before.before.geometry5.given.1 _ c.belts-figures.ensures
+returns-5 : tie.Need-returns-in-Gaussian
+returns-5 c = figures-by _ _ c.in-Gaussian.is _ c.belts_figures.ensures
 
-returns-6 : tie.Need-returns-6
-returns-6 c = figures-by _ _ c.before.before.geometry6.given.1 _ c.plane-figures.ensures
+returns-6 : tie.Need-returns-in-Polar
+returns-6 c = figures-by _ _ c.in-Polar.is _ c.plane_figures.ensures
 
 pub figures_of_spec : {M : Type 1} → statement M
 figures_of_spec =

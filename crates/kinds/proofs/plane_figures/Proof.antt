@@ -6,7 +6,7 @@ use Rattle.kinds.proofs.plane_figures.Tie as tie
 
 returns : tie.Need-returns
 unfolding the_figures_of
-returns c = rw c.plain.ensures (search rules)
+returns c = rw c.plain-none.ensures (search rules)
 
 pub plane_figures_spec : {M : Type 1} → statement M
 plane_figures_spec = tie.close (tie.spec (λ c κs. search rules) returns)

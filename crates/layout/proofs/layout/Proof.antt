@@ -11,21 +11,21 @@ returns : tie.Need-returns
 unfolding first_or layout_rows walk_of walk_rows section_rows
 returns c =
     rw (
-      c.refuse5.ensures,
-      c.before.refuse4.ensures,
-      c.before.before.grib-bad.ensures,
-      c.before.before.before.size-bad.ensures,
-      c.before.before.before.before.refuse3.ensures,
-      c.before.before.before.before.before.refuse2.ensures,
-      c.before.before.before.before.before.before.total-bad.ensures,
-      c.before.before.before.before.before.before.before.edition-bad.ensures,
-      c.before.before.before.before.before.before.before.before.walk.ensures,
-      c.before.before.before.before.before.before.before.before.before.places.ensures,
-      c.before.before.before.before.before.before.before.before.before.before.has-bitmap.ensures,
-      c.before.before.before.before.before.before.before.before.before.before.before.has-grid.ensures,
-      c.before.before.before.before.before.before.before.before.before.before.before.before.end-start.ensures,
-      c.before.before.before.before.before.before.before.before.before.before.before.before.before.refuse.ensures,
-      c.before.before.before.before.before.before.before.before.before.before.before.before.before.before.time-bad.ensures,
+      c.refuse-3.ensures,
+      c.refuse-2.ensures,
+      c.grib_bad.ensures,
+      c.size_bad.ensures,
+      c.refuse-early.ensures,
+      c.refuse.ensures,
+      c.total_bad.ensures,
+      c.edition_bad.ensures,
+      c.walk-late.ensures,
+      c.places.ensures,
+      c.has_bitmap.ensures,
+      c.has_grid.ensures,
+      c.end_start.ensures,
+      c.refuse-timed.ensures,
+      c.time_bad.ensures,
     )
 
 pub layout_spec : {M : Type 1} → statement M

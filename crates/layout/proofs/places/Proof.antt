@@ -8,12 +8,12 @@ returns : tie.Need-returns
 unfolding places_of
 returns c =
     rw (
-      c.section-at4.ensures.is,
-      c.before.before.section-at3.ensures.is,
-      c.before.before.before.before.has-bitmap.ensures,
-      c.before.before.before.before.before.section-at2.ensures.is,
-      c.before.before.before.before.before.before.before.has-grid.ensures,
-      c.before.before.before.before.before.before.before.before.section-at.ensures.is,
+      c.section_at-bds.ensures.is,
+      c.section_at-bms.ensures.is,
+      c.has_bitmap.ensures,
+      c.section_at-gds.ensures.is,
+      c.has_grid.ensures,
+      c.section_at-pds.ensures.is,
     )
 
 pub places_spec : {M : Type 1} → statement M

@@ -9,10 +9,10 @@ returns : tie.Need-returns
 unfolding first_or section_rows
 returns c =
     rw (
-      c.refuse-at4.ensures,
-      c.before.before.refuse-at3.ensures,
-      c.before.before.before.before.refuse-at2.ensures,
-      c.before.before.before.before.before.refuse-at.ensures,
+      c.refuse_at.ensures,
+      c.refuse_at-odd.ensures,
+      c.refuse_at-bounds.ensures,
+      c.refuse_at-last.ensures,
     )
 
 pub section_judged_spec : {M : Type 1} → statement M

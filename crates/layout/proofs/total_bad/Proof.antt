@@ -7,7 +7,7 @@ use Rattle.layout.proofs.total_bad.Tie as tie
 
 returns : tie.Need-returns
 unfolding any_of or_all total_faults
-returns c = rw (c.four.ensures, c.before.end-start.ensures, c.before.before.three.ensures)
+returns c = rw (c.four.ensures, c.end_start.ensures, c.three.ensures)
 
 pub total_bad_spec : {M : Type 1} → statement M
 total_bad_spec =

@@ -6,26 +6,23 @@ use Rattle.layout.proofs.Walked.{walked}
 use Rattle.layout.proofs.walk.Statement.{statement}
 use Rattle.layout.proofs.walk.Tie as tie
 
-at-bds : tie.Need-section-judged-requires
-at-bds c κs = omega (arith, c.before.before.before.requires.bds)
+at-bds : tie.Need-section_judged-bds-requires
+at-bds c κs = omega (arith, c.requires.bds)
 
-at-bms : tie.Need-section-judged-requires-2
-at-bms c κs = c.before.before.before.before.before.requires.bms
+at-bms : tie.Need-section_judged-bms-requires
+at-bms c κs = c.requires.bms
 
-at-gds : tie.Need-section-judged-requires-3
-at-gds c κs = c.before.before.before.before.before.before.before.requires.gds
+at-gds : tie.Need-section_judged-gds-requires
+at-gds c κs = c.requires.gds
 
-at-pds : tie.Need-section-judged-requires-4
-at-pds c κs = c.before.before.before.before.before.before.before.before.before.before.requires.pds
+at-pds : tie.Need-section_judged-requires
+at-pds c κs = c.requires.pds
 
 returns : tie.Need-returns
 unfolding first_or
 returns c =
-    let gds = c.before.before.before in
-    let bms = gds.before.before in
-    let bds = bms.before.before in
-    walked _ _ _ _ _ _ _ _ _ _ bds.before.before.refuse-at.ensures bds.section-judged.ensures
-    bms.section-judged2.ensures gds.section-judged3.ensures c.section-judged4.ensures
+    walked _ _ _ _ _ _ _ _ _ _ c.refuse_at-over.ensures c.section_judged-bds.ensures
+    c.section_judged-bms.ensures c.section_judged-gds.ensures c.section_judged.ensures
 
 pub walk_spec : {M : Type 1} → statement M
 walk_spec =

@@ -8,24 +8,24 @@ use Rattle.octants.proofs.Laws.{before-equator, before-pole, before-neither, bef
 use Rattle.octants.proofs.before_row.Statement.{statement}
 use Rattle.octants.proofs.before_row.Tie as tie
 
-returns : tie.Need-returns
-returns c = c.points.ensures ∙ before_last _ _ c.before.if1.true
+returns : tie.Need-returns-then-j-ge-OCTANT_ROWS
+returns c = c.points.ensures ∙ before_last _ _ c.if-j-ge-OCTANT_ROWS.true
 
-sub-result : tie.Need-overflow-sub-result
+sub-result : tie.Need-overflow_sub-result
 sub-result c =
-    let a = c.before.before.before.before.args in
-    omega (arith, c.before-equator2.ensures, before-few (octant_rows - a.j))
+    let a = c.args in
+    omega (arith, c.before_equator-in-Pole.ensures, before-few (octant_rows - a.j))
 
-returns-2 : tie.Need-returns-2
-returns-2 c = rw c.before.enum_told.given.1 (c.before-equator.ensures ∙ before-equator _)
+returns-2 : tie.Need-returns-in-Equator
+returns-2 c = rw c.in-Equator.is (c.before_equator.ensures ∙ before-equator _)
 
-returns-3 : tie.Need-returns-3
+returns-3 : tie.Need-returns-in-Pole
 returns-3 c =
-    rw c.before.enum-told2.given.1
-    (ap (λ (x : ℕ). octant_points - x) c.before-equator2.ensures ∙ before-pole _ (search rules))
+    rw c.in-Pole.is
+    (ap (λ (x : ℕ). octant_points - x) c.before_equator-in-Pole.ensures ∙ before-pole _ (search rules))
 
-returns-4 : tie.Need-returns-4
-returns-4 c = rw c.enum-told3.given.1 (before-neither _)
+returns-4 : tie.Need-returns-in-Neither
+returns-4 c = rw c.in-Neither.is (before-neither _)
 
 pub before_row_spec : {M : Type 1} → statement M
 before_row_spec =

@@ -6,17 +6,17 @@ use borrow.Author.Rules.{rules}
 use Rattle.octants.proofs.count.Statement.{statement}
 use Rattle.octants.proofs.count.Tie as tie
 
-returns : tie.Need-returns
-returns c = past _ _ c.if1.true
+returns : tie.Need-returns-then-j-ge-OCTANT_ROWS
+returns c = past _ _ c.if-j-ge-OCTANT_ROWS.true
 
-returns-2 : tie.Need-returns-2
-returns-2 c = rw c.before.enum_told.given.1 (c.from-equator.ensures ∙ from-equator _)
+returns-2 : tie.Need-returns-in-Equator
+returns-2 c = rw c.in-Equator.is (c.from_equator.ensures ∙ from-equator _)
 
-returns-3 : tie.Need-returns-3
-returns-3 c = rw c.before.enum-told2.given.1 (c.from-equator2.ensures ∙ from-pole _ (search rules))
+returns-3 : tie.Need-returns-in-Pole
+returns-3 c = rw c.in-Pole.is (c.from_equator-in-Pole.ensures ∙ from-pole _ (search rules))
 
-returns-4 : tie.Need-returns-4
-returns-4 c = rw c.enum-told3.given.1 (from-neither _)
+returns-4 : tie.Need-returns-in-Neither
+returns-4 c = rw c.in-Neither.is (from-neither _)
 
 pub count_spec : {M : Type 1} → statement M
 count_spec =

@@ -4,17 +4,17 @@ use borrow.Author.Rules.{rules}
 use Rattle.octants.proofs.points.Statement.{statement}
 use Rattle.octants.proofs.points.Tie as tie
 
-returns : tie.Need-returns
+returns : tie.Need-returns-in-Equator
 unfolding total counts_of the_from_equator
-returns c = rw c.enum_told.given.1
+returns c = rw c.in-Equator.is
 
-returns-2 : tie.Need-returns-2
+returns-2 : tie.Need-returns-in-Pole
 unfolding total counts_of the_from_equator
-returns-2 c = rw c.enum-told2.given.1
+returns-2 c = rw c.in-Pole.is
 
-returns-3 : tie.Need-returns-3
+returns-3 : tie.Need-returns-in-Neither
 unfolding total counts_of the_from_equator
-returns-3 c = rw c.enum-told3.given.1
+returns-3 c = rw c.in-Neither.is
 
 pub points_spec : {M : Type 1} → statement M
 points_spec =

@@ -10,29 +10,29 @@ use Rattle.octants.proofs.Laws.{spot_is}
 use Rattle.octants.proofs.scanned.Statement.{statement}
 use Rattle.octants.proofs.scanned.Tie as tie
 
-abbrev invariant-loop : tie.invariant-loop
+abbrev invariant-loop : tie.invariant-loop-j
 invariant-loop start k high j₀ left₀ j left = (j ≤ length (counts_of start)) × Left (counts_of start) k j left
 
-abbrev decreases-loop : tie.decreases-loop
+abbrev decreases-loop : tie.decreases-loop-j
 decreases-loop start k high j₀ left₀ j left = length (counts_of start) - j
 
-loop-holds : tie.Need-loop-init invariant-loop decreases-loop
+loop-holds : tie.Need-loop-j-init invariant-loop decreases-loop
 loop-holds c = (omega arith, left-first _ _)
 
-returns : tie.Need-returns invariant-loop decreases-loop
+returns : tie.Need-returns-then-left-c invariant-loop decreases-loop
 returns c =
-    let l = c.before.before.before.loop in
-    spot_is _ _ _ _ (left_here _ _ _ _ _ l.invariant.1 (omega arith) c.before.count.ensures c.if1.true)
+    let l = c.loop-j in
+    spot_is _ _ _ _ (left_here _ _ _ _ _ l.invariant.1 (omega arith) c.count-c.ensures c.if-left-c.true)
 
-loop-again : tie.Need-loop-preserved invariant-loop decreases-loop
+loop-again : tie.Need-loop-j-preserved invariant-loop decreases-loop
 loop-again c =
-    let l = c.before.before.before.loop in
-    (omega arith, left-on _ _ _ _ _ l.invariant.1 (omega arith) c.before.count.ensures c.if1.false)
+    let l = c.loop-j in
+    (omega arith, left-on _ _ _ _ _ l.invariant.1 (omega arith) c.count-c.ensures c.if-left-c.false)
 
-returns-2 : tie.Need-returns-2 invariant-loop decreases-loop
+returns-2 : tie.Need-returns invariant-loop decreases-loop
 returns-2 c =
-    let l = c.before.loop in
-    let e : length (counts_of c.before.before.before.args.start) ≤ l.j = omega arith in
+    let l = c.loop-j in
+    let e : length (counts_of c.args.start) ≤ l.j = omega arith in
     spot_is _ _ _ _ (left-none _ _ _ _ l.invariant.1 (drop_of_length-le _ e))
 
 pub scanned_spec : {M : Type 1} → statement M

@@ -13,25 +13,25 @@ use lib.ListN.{get_or}
 use Rattle.source.proofs.any_large.Statement.{statement}
 use Rattle.source.proofs.any_large.Tie as tie
 
-abbrev invariant-loop : tie.invariant-loop
+abbrev invariant-loop : tie.invariant-loop-i
 invariant-loop numbers c far₀ i₀ far i = (i ≤ c) × (far ≡ any_below (λ k. beyond source_most (get_or numbers k (pos 0))) i)
 
-abbrev decreases-loop : tie.decreases-loop
+abbrev decreases-loop : tie.decreases-loop-i
 decreases-loop numbers c far₀ i₀ far i = c - i
 
-loop-holds : tie.Need-loop-init invariant-loop decreases-loop
+loop-holds : tie.Need-loop-i-init invariant-loop decreases-loop
 loop-holds c = (omega arith, any_none _)
 
-loop-again : tie.Need-loop-preserved invariant-loop decreases-loop
+loop-again : tie.Need-loop-i-preserved invariant-loop decreases-loop
 loop-again c =
-    let l = c.before.before.before.loop in
-    let s = c.before.before.before.before.args.numbers.now in
-    (omega arith, large-next s l.i c.before.large-arg.given _ _ l.invariant.1 c.large.ensures)
+    let l = c.loop-i in
+    let s = c.args.numbers.now in
+    (omega arith, large-next s l.i c.large-arg-1.given _ _ l.invariant.1 c.large-far.ensures)
 
 returns : tie.Need-returns invariant-loop decreases-loop
 returns c =
-    let l = c.before.loop in
-    let a = c.before.before.args in
+    let l = c.loop-i in
+    let a = c.args in
     let e : l.i ≡ a.c = omega arith in
     l.invariant.1 ∙ ap (any_below (λ k. beyond source_most (get_or a.numbers.now k (pos 0)))) e
 

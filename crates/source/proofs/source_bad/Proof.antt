@@ -8,41 +8,36 @@ use Rattle.source.proofs.Field.{sizes, same, few, many, sized, unlike-long, late
 use Rattle.source.proofs.source_bad.Statement.{statement}
 use Rattle.source.proofs.source_bad.Tie as tie
 
-returns : tie.Need-returns
-returns c = many _ _ c.if1.true
+returns : tie.Need-returns-then-many
+returns c = many _ _ c.if-many.true
 
-cast-n : tie.Need-overflow-cast-n
+cast-n : tie.Need-overflow_cast-n
 cast-n c =
-    let a = c.before.before.args in
-    record { fits = omega (arith, few a.numbers.now a.marks.now c.if1.false) }
+    let a = c.args in
+    record { fits = omega (arith, few a.numbers.now a.marks.now c.if-many.false) }
 
-returns-2 : tie.Need-returns-2
-returns-2 c = unlike-long _ _ _ c.before.long.ensures c.if2.true
+returns-2 : tie.Need-returns-then-marks-long
+returns-2 c = unlike-long _ _ _ c.long.ensures c.if-marks-long.true
 
 -- as many marks as the numbers ask for
-fitting : (e : tie.Else2)
-    → let a = e.before.before.before.before.args in sizes a.numbers.now a.marks.now ≡ false
+fitting : (e : tie.Else-marks-long)
+    → let a = e.args in sizes a.numbers.now a.marks.now ≡ false
 fitting e =
-    let l = e.before in
-    let a = l.before.before.before.args in
-    sized a.numbers.now a.marks.now _ l.long.ensures e.if2.false l.before.if1.false
+    let a = e.args in
+    sized a.numbers.now a.marks.now _ e.long.ensures e.if-marks-long.false e.if-many.false
 
-returns-3 : tie.Need-returns-3
+returns-3 : tie.Need-returns-then-all_present
 returns-3 c =
-    let t = c.before in
-    let s = t.before.before in
-    late-all _ _ (fitting s) _ refl (sym t.before.all-present.ensures ∙ t.if3.true) _ c.any-large.ensures
+    late-all _ _ (fitting c.before.before.before) _ refl (sym c.all_present.ensures ∙ c.if-all_present.true) _ c.any_large.ensures
 
-present-large-requires : tie.Need-present-large-requires
+present-large-requires : tie.Need-present_large-requires
 present-large-requires c κs =
-    let s = c.before.before.before in
-    let a = s.before.before.before.before.args in
-    same a.numbers.now a.marks.now (fitting s)
+    let a = c.args in
+    same a.numbers.now a.marks.now (fitting c.before.before.before)
 
-returns-4 : tie.Need-returns-4
+returns-4 : tie.Need-returns
 returns-4 c =
-    let s = c.before.before.before.before in
-    late _ _ (fitting s) _ refl _ _ c.before.odd.ensures c.present-large.ensures
+    late _ _ (fitting c.before.before.before.before) _ refl _ _ c.odd.ensures c.present_large.ensures
 
 pub source_bad_spec : {M : Type 1} → statement M
 source_bad_spec =

@@ -8,10 +8,10 @@ returns : tie.Need-returns
 unfolding the_days_in
 returns c =
     rw (
-      c.pick3.ensures,
-      c.before.pick2.ensures,
-      c.before.before.pick.ensures,
-      c.before.before.before.is-leap.ensures,
+      c.pick-3.ensures,
+      c.pick-2.ensures,
+      c.pick.ensures,
+      c.is_leap.ensures,
     )
 
 pub days_in_spec : {M : Type 1} → statement M

@@ -8,13 +8,13 @@ returns : tie.Need-returns
 unfolding the_moment_at
 returns c =
     rw (
-      c.octet6.ensures,
-      c.before.octet5.ensures,
-      c.before.before.octet4.ensures,
-      c.before.before.before.octet3.ensures,
-      c.before.before.before.before.year-of.ensures,
-      c.before.before.before.before.before.octet2.ensures,
-      c.before.before.before.before.before.before.octet.ensures,
+      c.octet-6.ensures,
+      c.octet-5.ensures,
+      c.octet-4.ensures,
+      c.octet-3.ensures,
+      c.year_of.ensures,
+      c.octet-2.ensures,
+      c.octet.ensures,
     )
 
 pub moment_at_spec : {M : Type 1} → statement M

@@ -7,7 +7,7 @@ use Rattle.time.proofs.moment_bad.Tie as tie
 
 returns : tie.Need-returns
 unfolding any_of or_all moment_faults
-returns c = rw (c.days-in.ensures, c.before.year-of.ensures)
+returns c = rw (c.days_in.ensures, c.year_of.ensures)
 
 pub moment_bad_spec : {M : Type 1} → statement M
 moment_bad_spec = tie.close (tie.spec (λ c κs. search rules) (λ c κs. search rules) returns)

@@ -8,13 +8,13 @@ returns : tie.Need-returns
 unfolding time_faults
 returns c =
     rw (
-      c.moment-bad.ensures,
-      c.before.octet6.ensures,
-      c.before.before.octet5.ensures,
-      c.before.before.before.octet4.ensures,
-      c.before.before.before.before.octet3.ensures,
-      c.before.before.before.before.before.octet2.ensures,
-      c.before.before.before.before.before.before.octet.ensures,
+      c.moment_bad.ensures,
+      c.octet-6.ensures,
+      c.octet-5.ensures,
+      c.octet-4.ensures,
+      c.octet-3.ensures,
+      c.octet-2.ensures,
+      c.octet.ensures,
     )
 
 pub time_bad_spec : {M : Type 1} → statement M

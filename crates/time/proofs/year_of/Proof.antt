@@ -5,11 +5,11 @@ use borrow.Author.Rules.{rules}
 use Rattle.time.proofs.year_of.Statement.{statement}
 use Rattle.time.proofs.year_of.Tie as tie
 
-returns : tie.Need-returns
+returns : tie.Need-returns-then-century-eq0
 unfolding the_year_of
 returns c = omega arith
 
-returns-2 : tie.Need-returns-2
+returns-2 : tie.Need-returns-else-century-eq0
 unfolding the_year_of
 returns-2 c = omega arith
 

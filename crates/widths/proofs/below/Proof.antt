@@ -5,11 +5,11 @@ use Rattle.widths.proofs.Fits.{below-some, below-every}
 use Rattle.widths.proofs.below.Statement.{statement}
 use Rattle.widths.proofs.below.Tie as tie
 
-returns : tie.Need-returns
-returns c = let a = c.before.args in below-some a.v a.n (omega arith)
+returns : tie.Need-returns-then-n-lt32
+returns c = let a = c.args in below-some a.v a.n (omega arith)
 
-returns-2 : tie.Need-returns-2
-returns-2 c = let a = c.before.args in below-every a.v a.n (omega arith) (omega arith)
+returns-2 : tie.Need-returns
+returns-2 c = let a = c.args in below-every a.v a.n (omega arith) (omega arith)
 
 pub below_spec : {M : Type 1} → statement M
 below_spec = tie.close (tie.spec (λ c. search rules) (λ c. search rules) returns returns-2)

@@ -12,26 +12,26 @@ use Prim.Native.Nat.{◌≤◌, ◌-◌}
 use Rattle.marks.proofs.judging.all_present.Statement.{statement}
 use Rattle.marks.proofs.judging.all_present.Tie as tie
 
-abbrev invariant-loop : tie.invariant-loop
+abbrev invariant-loop : tie.invariant-loop-i
 invariant-loop marks n end gap₀ i₀ gap i = (i ≤ end) × (gap ≡ any_below (λ k. not (eqb (mark_of marks k) 1)) i)
 
-abbrev decreases-loop : tie.decreases-loop
+abbrev decreases-loop : tie.decreases-loop-i
 decreases-loop marks n end gap₀ i₀ gap i = end - i
 
-returns : tie.Need-returns invariant-loop decreases-loop
-returns c = present-short _ _ c.if1.true
+returns : tie.Need-returns-then-marks-n invariant-loop decreases-loop
+returns c = present-short _ _ c.if-marks-n.true
 
-loop-holds : tie.Need-loop-init invariant-loop decreases-loop
-loop-holds c = (omega arith, present-none c.before.args.marks.now)
+loop-holds : tie.Need-loop-i-init invariant-loop decreases-loop
+loop-holds c = (omega arith, present-none c.args.marks.now)
 
-loop-again : tie.Need-loop-preserved invariant-loop decreases-loop
-loop-again c = let l = c.before.before.loop in (omega arith, present-more c.before.before.before.before.args.marks.now l.i l.gap l.invariant.1)
+loop-again : tie.Need-loop-i-preserved invariant-loop decreases-loop
+loop-again c = let l = c.loop-i in (omega arith, present-more c.args.marks.now l.i l.gap l.invariant.1)
 
-returns-2 : tie.Need-returns-2 invariant-loop decreases-loop
+returns-2 : tie.Need-returns invariant-loop decreases-loop
 unfolding the_all_present
 returns-2 c =
-    let l = c.before.loop in
-    let a = c.before.before.before.args in
+    let l = c.loop-i in
+    let a = c.args in
     let e : l.i ≡ a.n = omega arith in
     ap not (l.invariant.1 ∙ ap (any_below (λ k. not (eqb (mark_of a.marks.now k) 1))) e)
 

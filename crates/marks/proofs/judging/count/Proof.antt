@@ -9,44 +9,44 @@ use Prim.Native.Nat.{◌≤◌, ◌-◌}
 use Rattle.marks.proofs.judging.count.Statement.{statement}
 use Rattle.marks.proofs.judging.count.Tie as tie
 
-abbrev invariant-loop : tie.invariant-loop
+abbrev invariant-loop : tie.invariant-loop-i
 invariant-loop marks n end m₀ i₀ m i = (i ≤ end) × (m ≡ count (here marks) 0 i)
 
-abbrev decreases-loop : tie.decreases-loop
+abbrev decreases-loop : tie.decreases-loop-i
 decreases-loop marks n end m₀ i₀ m i = end - i
 
-loop-holds : tie.Need-loop-init invariant-loop decreases-loop
+loop-holds : tie.Need-loop-i-init invariant-loop decreases-loop
 loop-holds c = (omega arith, count_none _ 0)
 
-add-m : tie.Need-overflow-add-m invariant-loop decreases-loop
+add-m : tie.Need-overflow_add-m invariant-loop decreases-loop
 add-m c =
-    let l = c.before.before.loop in
-    let s = c.before.before.before.before.before.args.marks.now in
-    omega (arith, count-few s 0 l.i, count-few s l.i 128, c.some-present.ensures)
+    let l = c.loop-i in
+    let s = c.args.marks.now in
+    omega (arith, count-few s 0 l.i, count-few s l.i 128, c.some_present.ensures)
 
-loop-again : tie.Need-loop-preserved invariant-loop decreases-loop
+loop-again : tie.Need-loop-i-preserved invariant-loop decreases-loop
 loop-again c =
-    let l = c.before.before.loop in
-    let s = c.before.before.before.before.before.args.marks.now in
-    (omega arith, count-more s l.i 128 l.m _ l.invariant.1 c.some-present.ensures)
+    let l = c.loop-i in
+    let s = c.args.marks.now in
+    (omega arith, count-more s l.i 128 l.m _ l.invariant.1 c.some_present.ensures)
 
-add-result : tie.Need-overflow-add-result invariant-loop decreases-loop
+add-result : tie.Need-overflow_add-result invariant-loop decreases-loop
 add-result c =
-    let l = c.before.before.loop in
-    let s = c.before.before.before.before.before.args.marks.now in
+    let l = c.loop-i in
+    let s = c.args.marks.now in
     omega (
       arith,
       count-few s 0 l.i,
-      count-few s l.i (c.before.before.before.within.result - l.i),
-      c.some-present2.ensures,
+      count-few s l.i (c.within-end.result - l.i),
+      c.some_present-2.ensures,
     )
 
 returns : tie.Need-returns invariant-loop decreases-loop
 returns c =
-    let l = c.before.before.loop in
-    let a = c.before.before.before.before.before.args in
-    let r = c.before.before.before.within.result - l.i in
-    count-more a.marks.now l.i r l.m _ l.invariant.1 c.some-present2.ensures
+    let l = c.loop-i in
+    let a = c.args in
+    let r = c.within-end.result - l.i in
+    count-more a.marks.now l.i r l.m _ l.invariant.1 c.some_present-2.ensures
     ∙ count-all a.marks.now a.n l.i r (omega arith)
 
 pub count_spec : {M : Type 1} → statement M

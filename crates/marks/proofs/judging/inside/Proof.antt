@@ -7,10 +7,10 @@ use borrow.Author.Rules.{rules}
 use Rattle.marks.proofs.judging.inside.Statement.{statement}
 use Rattle.marks.proofs.judging.inside.Tie as tie
 
-returns-2 : tie.Need-returns-2
+returns-2 : tie.Need-returns
 returns-2 c =
-    let a = c.before.before.before.args in
-    inside_is a.n _ (a.len - a.k) _ _ refl c.before.within.ensures c.within2.ensures
+    let a = c.args in
+    inside_is a.n _ (a.len - a.k) _ _ refl c.within.ensures c.within-2.ensures
 
 pub inside_spec : {M : Type 1} → statement M
 inside_spec =

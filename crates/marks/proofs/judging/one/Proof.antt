@@ -4,11 +4,11 @@ use Prim.Native.Nat.{◌-◌}
 use Rattle.marks.proofs.judging.one.Statement.{statement}
 use Rattle.marks.proofs.judging.one.Tie as tie
 
-returns : tie.Need-returns
-returns c = rw (eq-eqb c.before.args.mark 1 c.if1.true)
+returns : tie.Need-returns-then-mark-eq1
+returns c = rw (eq-eqb c.args.mark 1 c.if-mark-eq1.true)
 
-returns-2 : tie.Need-returns-2
-returns-2 c = rw (ne_eqb c.before.args.mark 1 c.if1.false)
+returns-2 : tie.Need-returns
+returns-2 c = rw (ne_eqb c.args.mark 1 c.if-mark-eq1.false)
 
 pub one_spec : {M : Type 1} → statement M
 one_spec = tie.close (tie.spec returns returns-2)

@@ -10,7 +10,7 @@ use Rattle.marks.proofs.judging.present.Tie as tie
 
 returns : tie.Need-returns
 returns c =
-    let a = c.before.before.args in
+    let a = c.args in
     ap (λ (x : ℕ). eqb x 1) (c.at.ensures ∙ ap (λ (k : ℕ). get_or a.marks.now k 0) (add-zero a.i))
 
 pub present_spec : {M : Type 1} → statement M

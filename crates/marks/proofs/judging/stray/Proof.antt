@@ -8,32 +8,32 @@ use Prim.Native.Nat.{◌≤◌, ◌-◌}
 use Rattle.marks.proofs.judging.stray.Statement.{statement}
 use Rattle.marks.proofs.judging.stray.Tie as tie
 
-abbrev invariant-loop : tie.invariant-loop
+abbrev invariant-loop : tie.invariant-loop-i
 invariant-loop values marks n end marked bad₀ i₀ bad i = (i ≤ marked) × (bad ≡ strays values marks i)
 
-abbrev decreases-loop : tie.decreases-loop
+abbrev decreases-loop : tie.decreases-loop-i
 decreases-loop values marks n end marked bad₀ i₀ bad i = marked - i
 
-abbrev invariant-loop2 : tie.invariant-loop2
+abbrev invariant-loop2 : tie.invariant-loop-i-2
 invariant-loop2 values marks n end marked bad₀ i₀ bad i = (marked ≤ i) × (i ≤ end) × (bad ≡ strays values marks i)
 
-abbrev decreases-loop2 : tie.decreases-loop2
+abbrev decreases-loop2 : tie.decreases-loop-i-2
 decreases-loop2 values marks n end marked bad₀ i₀ bad i = end - i
 
-loop-holds : tie.Need-loop-init invariant-loop decreases-loop invariant-loop2 decreases-loop2
+loop-holds : tie.Need-loop-i-init invariant-loop decreases-loop invariant-loop2 decreases-loop2
 loop-holds c = (omega arith, stray-none _ _)
 
-loop-again : tie.Need-loop-preserved invariant-loop decreases-loop invariant-loop2 decreases-loop2
-loop-again c = let l = c.before.before.before.loop in (omega arith, stray-more _ _ _ l.i l.invariant.1)
+loop-again : tie.Need-loop-i-preserved invariant-loop decreases-loop invariant-loop2 decreases-loop2
+loop-again c = let l = c.loop-i in (omega arith, stray-more _ _ _ l.i l.invariant.1)
 
-loop2-holds : tie.Need-loop2-init invariant-loop decreases-loop invariant-loop2 decreases-loop2
-loop2-holds c = (omega arith, omega arith, c.before.loop.invariant.1)
+loop2-holds : tie.Need-loop-i-2-init invariant-loop decreases-loop invariant-loop2 decreases-loop2
+loop2-holds c = (omega arith, omega arith, c.loop-i.invariant.1)
 
-loop2-again : tie.Need-loop2-preserved invariant-loop decreases-loop invariant-loop2 decreases-loop2
-loop2-again c = let l = c.before.before.loop2 in (omega arith, omega arith, stray_unmarked _ _ _ l.i l.invariant.2 (omega arith))
+loop2-again : tie.Need-loop-i-2-preserved invariant-loop decreases-loop invariant-loop2 decreases-loop2
+loop2-again c = let l = c.loop-i-2 in (omega arith, omega arith, stray_unmarked _ _ _ l.i l.invariant.2 (omega arith))
 
 returns : tie.Need-returns invariant-loop decreases-loop invariant-loop2 decreases-loop2
-returns c = let l = c.before.loop2 in stray-done _ _ _ l.i l.invariant.2 _ (omega arith)
+returns c = let l = c.loop-i-2 in stray-done _ _ _ l.i l.invariant.2 _ (omega arith)
 
 pub stray_spec : {M : Type 1} → statement M
 stray_spec =

@@ -6,16 +6,16 @@ use borrow.Author.Rules.{rules}
 use Rattle.marks.proofs.laying.fill.Statement.{statement}
 use Rattle.marks.proofs.laying.fill.Tie as tie
 
-returns : tie.Need-returns
+returns : tie.Need-returns-then-n-marks
 returns c =
-    let a = c.before.before.before.before.before.before.before.before.before.before.before.before.args in
+    let a = c.args in
     let f = G a.map.now a.k in
     fill_done f a.marks.now _ a.n (omega arith)
-    (c.before.before.fill-same.ensures f a.marks.now (λ i h l. bit_past a.map.now a.k i (omega arith))
-    (omega arith) c.before.before.before.before.before.before.fill-inside.ensures)
+    (c.fill_same.ensures f a.marks.now (λ i h l. bit_past a.map.now a.k i (omega arith))
+    (omega arith) c.fill_inside.ensures)
 
-returns-2 : tie.Need-returns-2
-returns-2 c = let a = c.before.before.before.args in fill-short (G a.map.now a.k) a.marks.now a.n (omega arith)
+returns-2 : tie.Need-returns
+returns-2 c = let a = c.args in fill-short (G a.map.now a.k) a.marks.now a.n (omega arith)
 
 pub fill_spec : {M : Type 1} → statement M
 fill_spec =

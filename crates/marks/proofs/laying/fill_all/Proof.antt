@@ -8,15 +8,15 @@ use borrow.Author.Rules.{rules}
 use Rattle.marks.proofs.laying.fill_all.Statement.{statement}
 use Rattle.marks.proofs.laying.fill_all.Tie as tie
 
-returns : tie.Need-returns
+returns : tie.Need-returns-then-n-marks
 unfolding tab
 returns c =
-    let a = c.before.before.before.before.before.before.args in
+    let a = c.args in
     fill_done (λ _. 1) a.marks.now _ a.n (omega arith)
-    (c.before.before.fill-same.ensures (λ _. 1) a.marks.now (λ i h l. refl) (omega arith) refl)
+    (c.fill_same.ensures (λ _. 1) a.marks.now (λ i h l. refl) (omega arith) refl)
 
-returns-2 : tie.Need-returns-2
-returns-2 c = let a = c.before.before.args in fill-short (λ _. 1) a.marks.now a.n (omega arith)
+returns-2 : tie.Need-returns
+returns-2 c = let a = c.args in fill-short (λ _. 1) a.marks.now a.n (omega arith)
 
 pub fill_all_spec : {M : Type 1} → statement M
 fill_all_spec = tie.close (tie.spec (λ c κs. search rules) (λ c. search rules) returns returns-2)

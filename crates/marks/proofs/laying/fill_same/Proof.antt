@@ -9,21 +9,21 @@ use lib.ListN.{length}
 use Rattle.marks.proofs.laying.fill_same.Statement.{statement}
 use Rattle.marks.proofs.laying.fill_same.Tie as tie
 
-abbrev invariant-loop : tie.invariant-loop
+abbrev invariant-loop : tie.invariant-loop-i
 invariant-loop x from n marks₀ i₀ marks i =
     (from ≤ i) × (i ≤ n) × (length marks ≡ length marks₀)
     × ((f : ℕ → ℕ) → ((k : ℕ) → from ≤ k → k < n → x ≡ f k) → Marked f marks₀ from marks i n)
 
-abbrev decreases-loop : tie.decreases-loop
+abbrev decreases-loop : tie.decreases-loop-i
 decreases-loop x from n marks₀ i₀ marks i = n - i
 
-loop-holds : tie.Need-loop-init invariant-loop decreases-loop
+loop-holds : tie.Need-loop-i-init invariant-loop decreases-loop
 loop-holds c = (omega arith, omega arith, refl, λ f h d k e. e)
 
-loop-again : tie.Need-loop-preserved invariant-loop decreases-loop
+loop-again : tie.Need-loop-i-preserved invariant-loop decreases-loop
 loop-again c =
-    let l = c.before.loop in
-    let a = c.before.before.args in (
+    let l = c.loop-i in
+    let a = c.args in (
       omega arith,
       omega arith,
       simp length-set l.invariant.2,
@@ -33,8 +33,8 @@ loop-again c =
 
 returns : tie.Need-returns invariant-loop decreases-loop
 returns c f d h =
-    let l = c.before.loop in
-    let a = c.before.before.args in
+    let l = c.loop-i in
+    let a = c.args in
     marks-same f a.marks.now l.marks a.from l.i a.n a.n (omega arith) (l.invariant.3 f h) d
 
 pub fill_same_spec : {M : Type 1} → statement M

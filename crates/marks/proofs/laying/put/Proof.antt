@@ -6,18 +6,17 @@ use borrow.Author.Rules.{rules}
 use Rattle.marks.proofs.laying.put.Statement.{statement}
 use Rattle.marks.proofs.laying.put.Tie as tie
 
-returns : tie.Need-returns
+returns : tie.Need-returns-then-c-out
 returns c =
-    let p = c.before.before in
-    let a = c.before.before.before.before.before.before.before.before.before.args in
-    put-done a.marks.now a.out.now _ a.n _ a.k a.c p.before.before.within.ensures (omega arith)
-    p.put-inside.ensures
+    let a = c.args in
+    put-done a.marks.now a.out.now _ a.n _ a.k a.c c.within.ensures (omega arith)
+    c.put_inside.ensures
 
-returns-2 : tie.Need-returns-2
-returns-2 c = let a = c.before.before.before.before.args in put-short a.marks.now a.out.now a.n a.k a.c (omega arith)
+returns-2 : tie.Need-returns-else-c-out
+returns-2 c = let a = c.args in put-short a.marks.now a.out.now a.n a.k a.c (omega arith)
 
-returns-3 : tie.Need-returns-3
-returns-3 c = let a = c.before.before.before.args in put-short a.marks.now a.out.now a.n a.k a.c (omega arith)
+returns-3 : tie.Need-returns-else-k-out
+returns-3 c = let a = c.args in put-short a.marks.now a.out.now a.n a.k a.c (omega arith)
 
 pub put_spec : {M : Type 1} → statement M
 put_spec =

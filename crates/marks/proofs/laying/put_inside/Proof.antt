@@ -11,55 +11,55 @@ use lib.ListN.{length}
 use Rattle.marks.proofs.laying.put_inside.Statement.{statement}
 use Rattle.marks.proofs.laying.put_inside.Tie as tie
 
-abbrev invariant-loop : tie.invariant-loop
+abbrev invariant-loop : tie.invariant-loop-g
 invariant-loop marks m out₀ k c whole g₀ out g =
     (g ≤ whole) × (length out ≡ length out₀) × (out ≡ placed out₀ k (runs (F marks m) 0 8 g))
 
-abbrev decreases-loop : tie.decreases-loop
+abbrev decreases-loop : tie.decreases-loop-g
 decreases-loop marks m out₀ k c whole g₀ out g = whole - g
 
-abbrev invariant-loop2 : tie.invariant-loop2
+abbrev invariant-loop2 : tie.invariant-loop-g-2
 invariant-loop2 marks m out₀ k c whole g₀ out g =
     (whole ≤ g) × (g ≤ c) × (length out ≡ length out₀)
     × ((d : List ℕ) → length d ≡ length out₀ → out₀ ≡ placed d k (runs (F marks m) 0 8 g₀) → out
     ≡ placed d k (runs (F marks m) 0 8 g))
 
-abbrev decreases-loop2 : tie.decreases-loop2
+abbrev decreases-loop2 : tie.decreases-loop-g-2
 decreases-loop2 marks m out₀ k c whole g₀ out g = c - g
 
-loop-holds : tie.Need-loop-init invariant-loop decreases-loop invariant-loop2 decreases-loop2
+loop-holds : tie.Need-loop-g-init invariant-loop decreases-loop invariant-loop2 decreases-loop2
 loop-holds c = (omega arith, refl, octets-none _ _ _)
 
-loop-again : tie.Need-loop-preserved invariant-loop decreases-loop invariant-loop2 decreases-loop2
+loop-again : tie.Need-loop-g-preserved invariant-loop decreases-loop invariant-loop2 decreases-loop2
 loop-again c =
-    let l = c.before.before.loop in
-    let a = c.before.before.before.before.before.before.args in
-    let e = c.octet-of.ensures a.m (omega arith) (λ h. omega arith) in (
+    let l = c.loop-g in
+    let a = c.args in
+    let e = c.octet_of.ensures a.m (omega arith) (λ h. omega arith) in (
       omega arith,
       simp length-set l.invariant.1,
       octets-more a.out.now l.out (F a.marks.now a.m) a.k
           l.g _ (omega arith) e l.invariant.2,
     )
 
-loop2-holds : tie.Need-loop2-init invariant-loop decreases-loop invariant-loop2 decreases-loop2
+loop2-holds : tie.Need-loop-g-2-init invariant-loop decreases-loop invariant-loop2 decreases-loop2
 loop2-holds c = (omega arith, omega arith, refl, λ d h e. e)
 
-loop2-again : tie.Need-loop2-preserved invariant-loop decreases-loop invariant-loop2 decreases-loop2
+loop2-again : tie.Need-loop-g-2-preserved invariant-loop decreases-loop invariant-loop2 decreases-loop2
 loop2-again c =
-    let l = c.before.before.loop2 in
-    let a = c.before.before.before.before.before.before.before.before.args in (
+    let l = c.loop-g-2 in
+    let a = c.args in (
       omega arith,
       omega arith,
       simp length-set l.invariant.2,
-      λ d h e. octets-more d l.out (F a.marks.now a.m) a.k l.g _ (omega arith) c.octet-after.ensures
+      λ d h e. octets-more d l.out (F a.marks.now a.m) a.k l.g _ (omega arith) c.octet_after.ensures
           (l.invariant.3 d h e),
     )
 
 returns : tie.Need-returns invariant-loop decreases-loop invariant-loop2 decreases-loop2
 returns c =
-    let q = c.before.loop2 in
-    let l = c.before.before.before.loop in
-    let a = c.before.before.before.before.before.before.before.args in
+    let q = c.loop-g-2 in
+    let l = c.loop-g in
+    let a = c.args in
     let e : q.g ≡ a.c = omega arith in
     q.invariant.3 a.out.now (omega arith) l.invariant.2
     ∙ ap (λ (x : ℕ). placed a.out.now a.k (runs (F a.marks.now a.m) 0 8 x)) e

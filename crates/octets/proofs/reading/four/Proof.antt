@@ -7,8 +7,8 @@ use Rattle.octets.proofs.reading.four.Tie as tie
 
 returns : tie.Need-returns
 returns c =
-    L.four _ _ _ _ _ _ _ _ c.before.before.before.before.offset.ensures c.before.before.before.at.ensures
-    c.before.before.at2.ensures c.before.at3.ensures c.at4.ensures (omega arith) (omega arith)
+    L.four _ _ _ _ _ _ _ _ c.offset-j.ensures c.at.ensures
+    c.at-2.ensures c.at-3.ensures c.at-4.ensures (omega arith) (omega arith)
     (omega arith) (omega arith)
 
 pub four_spec : {M : Type 1} → statement M

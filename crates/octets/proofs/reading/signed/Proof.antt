@@ -6,14 +6,14 @@ use borrow.Author.Rules.{rules}
 use Rattle.octets.proofs.reading.signed.Statement.{statement}
 use Rattle.octets.proofs.reading.signed.Tie as tie
 
-returns : tie.Need-returns
-returns c = low _ _ c.if1.true (omega arith)
+returns : tie.Need-returns-then-v-half
+returns c = low _ _ c.if-v-half.true (omega arith)
 
-sub-result : tie.Need-overflow-sub-result
-sub-result c = neg_sub-fits (c.before.args.v - c.before.args.half) (omega arith)
+sub-result : tie.Need-overflow_sub-result-2
+sub-result c = neg_sub-fits (c.args.v - c.args.half) (omega arith)
 
-returns-2 : tie.Need-returns-2
-returns-2 c = high _ _ c.if1.false (omega arith)
+returns-2 : tie.Need-returns
+returns-2 c = high _ _ c.if-v-half.false (omega arith)
 
 pub signed_spec : {M : Type 1} → statement M
 signed_spec = tie.close (tie.spec (λ c. search rules) returns (λ c. search rules) sub-result returns-2)

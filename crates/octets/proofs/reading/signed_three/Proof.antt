@@ -16,7 +16,7 @@ unfolding signed
 returns c =
     c.plain.ensures
     ∙ ap plain
-    (back 8388608 _ _ _ c.before.before.three.ensures c.before.signed.ensures c.before.signed.type-inv)
+    (back 8388608 _ _ _ c.three.ensures c.signed.ensures c.signed.type_inv)
 
 pub signed_three_spec : {M : Type 1} → statement M
 signed_three_spec = tie.close (tie.spec (λ c κs. search rules) signed-requires (λ c κs. search rules) returns)

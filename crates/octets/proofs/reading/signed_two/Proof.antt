@@ -10,7 +10,7 @@ returns : tie.Need-returns
 unfolding signed
 returns c =
     c.plain.ensures
-    ∙ ap plain (back 32768 _ _ _ c.before.before.two.ensures c.before.signed.ensures c.before.signed.type-inv)
+    ∙ ap plain (back 32768 _ _ _ c.two.ensures c.signed.ensures c.signed.type_inv)
 
 pub signed_two_spec : {M : Type 1} → statement M
 signed_two_spec =

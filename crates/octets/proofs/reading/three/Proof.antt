@@ -7,8 +7,8 @@ use Rattle.octets.proofs.reading.three.Tie as tie
 
 returns : tie.Need-returns
 returns c =
-    L.three _ _ _ _ _ _ _ c.before.before.before.offset.ensures c.before.before.at.ensures
-    c.before.at2.ensures c.at3.ensures (omega arith) (omega arith) (omega arith)
+    L.three _ _ _ _ _ _ _ c.offset-j.ensures c.at.ensures
+    c.at-2.ensures c.at-3.ensures (omega arith) (omega arith) (omega arith)
 
 pub three_spec : {M : Type 1} → statement M
 three_spec =

@@ -7,7 +7,7 @@ use Rattle.octets.proofs.reading.two.Tie as tie
 
 returns : tie.Need-returns
 returns c =
-    L.two _ _ _ _ _ _ c.before.before.offset.ensures c.before.at.ensures c.at2.ensures (omega arith)
+    L.two _ _ _ _ _ _ c.offset-j.ensures c.at.ensures c.at-2.ensures (omega arith)
     (omega arith)
 
 pub two_spec : {M : Type 1} → statement M

@@ -8,37 +8,32 @@ use Rattle.packs.proofs.fields.put_bits.Tie as tie
 
 placed-requires : tie.Need-placed-requires
 placed-requires c κs =
-    let t = c.before in
-    let d = t.before in
-    let a = d.before.before.args in
+    let a = c.args in
     let o = a.out.now in (
-      bits-width o a.from a.n a.v _ d.below.ensures t.if1.true,
+      bits-width o a.from a.n a.v _ c.below.ensures c.if-n-below.true,
       (
-        bits_small o a.from a.n a.v _ d.below.ensures t.if1.true,
+        bits_small o a.from a.n a.v _ c.below.ensures c.if-n-below.true,
         bits-room o a.from a.n a.v _
-            d.below.ensures t.if1.true,
+            c.below.ensures c.if-n-below.true,
       ),
     )
 
-returns : tie.Need-returns
+returns : tie.Need-returns-then-n-below
 returns c =
-    let t = c.before.before.before.before in
-    let d = t.before in
-    let a = d.before.before.args in
+    let a = c.args in
     let o = a.out.now in (
-      bits-answer o a.from a.n a.v _ d.below.ensures t.if1.true,
-      c.before.before.placed.ensures
-          ∙ bits_left o a.from a.n a.v _ d.below.ensures t.if1.true,
+      bits-answer o a.from a.n a.v _ c.below.ensures c.if-n-below.true,
+      c.placed.ensures
+          ∙ bits_left o a.from a.n a.v _ c.below.ensures c.if-n-below.true,
     )
 
-returns-2 : tie.Need-returns-2
+returns-2 : tie.Need-returns
 returns-2 c =
-    let d = c.before in
-    let a = d.before.before.args in
+    let a = c.args in
     let o = a.out.now in (
-      no-bits-answer o a.from a.n a.v _ d.below.ensures c.if1.false,
+      no-bits-answer o a.from a.n a.v _ c.below.ensures c.if-n-below.false,
       no-bits-left o a.from a.n
-          a.v _ d.below.ensures c.if1.false,
+          a.v _ c.below.ensures c.if-n-below.false,
     )
 
 pub put_bits_spec : {M : Type 1} → statement M

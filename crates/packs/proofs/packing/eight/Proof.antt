@@ -8,52 +8,49 @@ use Rattle.packs.proofs.Small.{power-is, power-fits, held_none, held_more, held_
 use Rattle.packs.proofs.packing.eight.Statement.{statement}
 use Rattle.packs.proofs.packing.eight.Tie as tie
 
-abbrev invariant-loop : tie.invariant-loop
+abbrev invariant-loop : tie.invariant-loop-j
 invariant-loop vs i n power all₀ j₀ all j = (j ≤ 8) × (all ≡ run (bits_in n vs) (i * n) (j * n))
 
-abbrev decreases-loop : tie.decreases-loop
+abbrev decreases-loop : tie.decreases-loop-j
 decreases-loop vs i n power all₀ j₀ all j = 8 - j
 
-add-power : tie.Need-overflow-add-power invariant-loop decreases-loop
+add-power : tie.Need-overflow_add-power invariant-loop decreases-loop
 add-power c = record { fits = power-fits c.args.n }
 
-loop-holds : tie.Need-loop-init invariant-loop decreases-loop
+loop-holds : tie.Need-loop-j-init invariant-loop decreases-loop
 loop-holds c = let a = c.args in (omega arith, held_none a.n a.vs.now a.i)
 
-mul-all : tie.Need-overflow-mul-all invariant-loop decreases-loop
+mul-all : tie.Need-overflow_mul-all invariant-loop decreases-loop
 mul-all c =
-    let l = c.before.loop in
-    let b = c.before.before in
-    let a = b.args in
-    let e = held_more a.n a.vs.now b.requires.1.0 a.i l.j l.all _ (power-is a.n (omega arith)) l.invariant.1 in
+    let l = c.loop-j in
+    let a = c.args in
+    let e = held_more a.n a.vs.now c.requires.1.0 a.i l.j l.all _ (power-is a.n (omega arith)) l.invariant.1 in
     record { fits = (held_fits a.n a.vs.now (omega arith) a.i l.j l.all _ _ (omega arith) e).0 }
 
-cast-all : tie.Need-overflow-cast-all invariant-loop decreases-loop
+cast-all : tie.Need-overflow_cast-all invariant-loop decreases-loop
 cast-all c =
-    omega (arith, c.shared-slice-known.given (c.before.before.before.args.i + c.before.before.loop.j))
+    omega (arith, c.shared_slice_known-1.given (c.args.i + c.loop-j.j))
 
-add-all-2 : tie.Need-overflow-add-all-2 invariant-loop decreases-loop
+add-all-2 : tie.Need-overflow_add-all-in-loop-j invariant-loop decreases-loop
 add-all-2 c =
-    let l = c.before.before.loop in
-    let b = c.before.before.before in
-    let a = b.args in
-    let e = held_more a.n a.vs.now b.requires.1.0 a.i l.j l.all _ (power-is a.n (omega arith)) l.invariant.1 in
+    let l = c.loop-j in
+    let a = c.args in
+    let e = held_more a.n a.vs.now c.requires.1.0 a.i l.j l.all _ (power-is a.n (omega arith)) l.invariant.1 in
     record { fits = (held_fits a.n a.vs.now (omega arith) a.i l.j l.all _ _ (omega arith) e).1 }
 
-loop-again : tie.Need-loop-preserved invariant-loop decreases-loop
+loop-again : tie.Need-loop-j-preserved invariant-loop decreases-loop
 loop-again c =
-    let l = c.before.before.loop in
-    let b = c.before.before.before in
-    let a = b.args in (
+    let l = c.loop-j in
+    let a = c.args in (
       omega arith,
-      held_more a.n a.vs.now b.requires.1.0 a.i l.j l.all _ (power-is a.n (omega arith))
+      held_more a.n a.vs.now c.requires.1.0 a.i l.j l.all _ (power-is a.n (omega arith))
           l.invariant.1,
     )
 
 returns : tie.Need-returns invariant-loop decreases-loop
 returns c =
-    let l = c.before.loop in
-    let a = c.before.before.args in
+    let l = c.loop-j in
+    let a = c.args in
     let e : l.j ≡ 8 = omega arith in
     l.invariant.1 ∙ ap (λ (x : ℕ). run (bits_in a.n a.vs.now) (a.i * a.n) (x * a.n)) e
 

@@ -8,31 +8,30 @@ use Rattle.packs.proofs.Lists.{pack-width, pack-fits, pack-room, pack-wide, pack
 use Rattle.packs.proofs.packing.pack.Statement.{statement}
 use Rattle.packs.proofs.packing.pack.Tie as tie
 
-yes : (c : tie.Then1)
-    → let a = c.before.before.before.before.args in pack_fits a.n a.vs.now (length a.out.now) ≡ true
-yes c = sym c.before.packable.ensures ∙ c.if1.true
+yes : (c : tie.Then-packable)
+    → let a = c.args in pack_fits a.n a.vs.now (length a.out.now) ≡ true
+yes c = sym c.packable.ensures ∙ c.if-packable.true
 
-no : (c : tie.Else1)
-    → let a = c.before.before.before.before.args in pack_fits a.n a.vs.now (length a.out.now) ≡ false
-no c = sym c.before.packable.ensures ∙ c.if1.false
+no : (c : tie.Else-packable)
+    → let a = c.args in pack_fits a.n a.vs.now (length a.out.now) ≡ false
+no c = sym c.packable.ensures ∙ c.if-packable.false
 
-pack-all-requires : tie.Need-pack-all-requires
+pack-all-requires : tie.Need-pack_all-requires
 pack-all-requires c κs =
-    let a = c.before.before.before.before.before.args in
+    let a = c.args in
     let h = yes c.before in (
       pack-width a.n a.vs.now _ h,
       (pack-wide a.n a.vs.now _ h, (pack-fits a.n a.vs.now _ h, pack-room a.n a.vs.now _ h)),
     )
 
-returns : tie.Need-returns
+returns : tie.Need-returns-then-packable
 returns c =
-    let t = c.before.before.before.before in
-    let a = t.before.before.before.before.args in
-    (sym (yes t), c.before.before.pack-all.ensures ∙ pack-left a.n a.vs.now a.out.now true (sym (yes t)))
+    let a = c.args in
+    (sym (yes c.before.before.before.before), c.pack_all.ensures ∙ pack-left a.n a.vs.now a.out.now true (sym (yes c.before.before.before.before)))
 
-returns-2 : tie.Need-returns-2
+returns-2 : tie.Need-returns
 returns-2 c =
-    let a = c.before.before.before.before.args in
+    let a = c.args in
     (sym (no c), pack-left a.n a.vs.now a.out.now false (sym (no c)))
 
 pub pack_spec : {M : Type 1} → statement M

@@ -11,37 +11,34 @@ use borrow.Author.Rules.{rules}
 use Rattle.packs.proofs.packing.pack_all.Statement.{statement}
 use Rattle.packs.proofs.packing.pack_all.Tie as tie
 
-pack-small-requires : tie.Need-pack-small-requires
-pack-small-requires c κs = (omega arith, (c.before.before.before.before.requires.1.0, (omega arith, omega arith)))
+pack-small-requires : tie.Need-pack_small-requires
+pack-small-requires c κs = (omega arith, (c.requires.1.0, (omega arith, omega arith)))
 
-pack-over-requires : tie.Need-pack-over-requires
+pack-over-requires : tie.Need-pack_over-requires
 pack-over-requires c κs =
-    (omega arith, (c.before.before.before.before.before.before.before.requires.1.0, omega arith))
+    (omega arith, (c.requires.1.0, omega arith))
 
 store-requires : tie.Need-store-requires
 store-requires c κs = (omega arith, (omega arith, omega arith))
 
-pack-rest-requires : tie.Need-pack-rest-requires
+pack-rest-requires : tie.Need-pack_rest-requires
 pack-rest-requires c κs =
-    (omega arith, (c.before.before.before.before.before.requires.1.0, (omega arith, (omega arith, omega arith))))
+    (omega arith, (c.requires.1.0, (omega arith, (omega arith, omega arith))))
 
-returns-2 : tie.Need-returns-2
+returns-2 : tie.Need-returns-then-out-end-ge4
 returns-2 c =
-    let k = c.before.before.before.before.before.before.before.before.before.before.before.before in
-    let b = k.before.before in
-    let a = b.args in
-    let f = c.before.before.before.before.before.before.before.before in
+    let a = c.args in
     let z : (octets_for (length a.vs.now * a.n) + (1 - 1)) * 8 ≡ octets_for (length a.vs.now * a.n) * 8 = omega arith in
-    c.before.before.store.ensures
+    c.store.ensures
     ∙ ap₂ (λ (x : List ℕ) (y : ℕ). number_at x (octets_for (length a.vs.now * a.n)) 4 y)
-    c.before.before.before.before.before.before.pack-over.ensures
-    (f.four.ensures ∙ ap (λ (x : ℕ). run (bits_in 8 a.out.now) x 32) z)
-    ∙ restored a.n a.vs.now a.out.now (omega arith) (λ i. (k.slice-known.given i).fits) (omega arith)
+    c.pack_over.ensures
+    (c.four-after.ensures ∙ ap (λ (x : ℕ). run (bits_in 8 a.out.now) x 32) z)
+    ∙ restored a.n a.vs.now a.out.now (omega arith) (λ i. (c.slice_known-1.given i).fits) (omega arith)
 
-returns-3 : tie.Need-returns-3
+returns-3 : tie.Need-returns-else-out-end-ge4
 returns-3 c =
-    let a = c.before.before.before.before.before.before.before.before.args in
-    c.before.before.pack-rest.ensures a.out.now (pack-none a.n a.vs.now a.out.now)
+    let a = c.args in
+    c.pack_rest.ensures a.out.now (pack-none a.n a.vs.now a.out.now)
 
 pub pack_all_spec : {M : Type 1} → statement M
 pack_all_spec =

@@ -10,28 +10,27 @@ use lib.ListN.{length}
 use Rattle.packs.proofs.packing.pack_over.Statement.{statement}
 use Rattle.packs.proofs.packing.pack_over.Tie as tie
 
-abbrev invariant-loop : tie.invariant-loop
+abbrev invariant-loop : tie.invariant-loop-i
 invariant-loop vs n out₀ k₀ i₀ out k i =
     (i ≤ length vs) × (k * 8 ≡ i * n) × (length out ≡ length out₀) × (out ≡ over n vs i out₀)
 
-abbrev decreases-loop : tie.decreases-loop
+abbrev decreases-loop : tie.decreases-loop-i
 decreases-loop vs n out₀ k₀ i₀ out k i = length vs - i
 
-loop-holds : tie.Need-loop-init invariant-loop decreases-loop
+loop-holds : tie.Need-loop-i-init invariant-loop decreases-loop
 loop-holds c =
-    let a = c.before.before.args in
+    let a = c.args in
     (omega arith, sym (zero-mul a.n), refl, over_none a.vs.now a.n a.out.now)
 
-pack-some-requires : tie.Need-pack-some-requires invariant-loop decreases-loop
+pack-some-requires : tie.Need-pack_some-requires invariant-loop decreases-loop
 pack-some-requires c κs =
-    let l = c.before.before.loop in
-    let b = c.before.before.before.before.before in
-    (omega arith, (b.requires.1.0, (omega arith, (l.invariant.1, omega arith, omega arith))))
+    let l = c.loop-i in
+    (omega arith, (c.requires.1.0, (omega arith, (l.invariant.1, omega arith, omega arith))))
 
-add-k : tie.Need-overflow-add-k invariant-loop decreases-loop
+add-k : tie.Need-overflow_add-k invariant-loop decreases-loop
 add-k c =
-    let l = c.before.before.before.before.before.loop in
-    let a = c.before.before.before.before.before.before.before.before.args in
+    let l = c.loop-i in
+    let a = c.args in
     omega (
       arith,
       add-mul l.i 8 a.n,
@@ -39,11 +38,11 @@ add-k c =
           (omega arith),
     )
 
-loop-again : tie.Need-loop-preserved invariant-loop decreases-loop
+loop-again : tie.Need-loop-i-preserved invariant-loop decreases-loop
 loop-again c =
-    let l = c.before.before.before.before.before.loop in
-    let a = c.before.before.before.before.before.before.before.before.args in
-    let f = c.before.before.pack-some in (
+    let l = c.loop-i in
+    let a = c.args in
+    let f = c.pack_some in (
       omega arith,
       omega (arith, add-mul l.i 8 a.n),
       f.auto.1.1.0
@@ -51,18 +50,17 @@ loop-again c =
       f.ensures a.out.now l.invariant.3,
     )
 
-pack-some-requires-2 : tie.Need-pack-some-requires-2 invariant-loop decreases-loop
+pack-some-requires-2 : tie.Need-pack_some-requires-2 invariant-loop decreases-loop
 pack-some-requires-2 c κs =
-    let l = c.before.before.loop in
-    let b = c.before.before.before.before.before in
-    (omega arith, (b.requires.1.0, (omega arith, (l.invariant.1, omega arith, omega arith))))
+    let l = c.loop-i in
+    (omega arith, (c.requires.1.0, (omega arith, (l.invariant.1, omega arith, omega arith))))
 
 returns : tie.Need-returns invariant-loop decreases-loop
 returns c =
-    let l = c.before.before.before.before.before.loop in
-    let a = c.before.before.before.before.before.before.before.before.args in
+    let l = c.loop-i in
+    let a = c.args in
     over-all a.vs.now a.n a.out.now _ _ (omega arith)
-    (c.before.before.pack-some2.ensures a.out.now l.invariant.3)
+    (c.pack_some-2.ensures a.out.now l.invariant.3)
 
 pub pack_over_spec : {M : Type 1} → statement M
 pack_over_spec =

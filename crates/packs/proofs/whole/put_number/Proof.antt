@@ -8,49 +8,45 @@ use Rattle.packs.proofs.Numbers.{fit-few, fit-room, fit_small, fit-answer, fit-l
 use Rattle.packs.proofs.whole.put_number.Statement.{statement}
 use Rattle.packs.proofs.whole.put_number.Tie as tie
 
-room : (c : tie.Then1) →
-    let d = c.before.before.before in
-    let a = d.before.before.args in
-    a.p + d.offset.result + a.c ≤ length a.out.now
+room : (c : tie.Then-c-room) →
+    let a = c.args in
+    a.p + c.offset-j.result + a.c ≤ length a.out.now
 room c =
-    let d = c.before in
-    let a = d.before.before.before.before.args in
-    fit-room a.out.now a.p a.k a.c a.x _ _ _ d.before.before.offset.ensures
-    d.before.room.ensures d.below.ensures c.if1.true
+    let a = c.args in
+    fit-room a.out.now a.p a.k a.c a.x _ _ _ c.offset-j.ensures
+    c.room.ensures c.below.ensures c.if-c-room.true
 
-add-store : tie.Need-overflow-add-store
+add-store : tie.Need-overflow_add-p
 add-store c = omega (arith, room c.before)
 
 store-requires : tie.Need-store-requires
 store-requires c κs =
-    let d = c.before.before in
-    let f = fit-few d.before.before.before.before.args.out.now _ _ _ _ _ _ _ d.before.before.offset.ensures d.before.room.ensures d.below.ensures c.before.if1.true in (
+    let f = fit-few c.args.out.now _ _ _ _ _ _ _ c.offset-j.ensures c.room.ensures c.below.ensures c.if-c-room.true in (
       omega arith,
       (
-        fit_small d.before.before.before.before.args.out.now _ _ _ _ _ _ _ d.before.before.offset.ensures
-            d.before.room.ensures d.below.ensures c.before.if1.true,
+        fit_small c.args.out.now _ _ _ _ _ _ _ c.offset-j.ensures
+            c.room.ensures c.below.ensures c.if-c-room.true,
         room c.before,
       ),
     )
 
-returns : tie.Need-returns
+returns : tie.Need-returns-then-c-room
 returns c =
-    let t = c.before.before.before.before in
-    let d = t.before in (
-      fit-answer _ _ _ _ _ _ _ _ d.before.before.offset.ensures d.before.room.ensures d.below.ensures
-          t.if1.true,
-      c.before.before.store.ensures
-          ∙ fit-left _ _ _ _ _ _ _ _ d.before.before.offset.ensures d.before.room.ensures d.below.ensures
-          t.if1.true,
+    (
+      fit-answer _ _ _ _ _ _ _ _ c.offset-j.ensures c.room.ensures c.below.ensures
+          c.if-c-room.true,
+      c.store.ensures
+          ∙ fit-left _ _ _ _ _ _ _ _ c.offset-j.ensures c.room.ensures c.below.ensures
+          c.if-c-room.true,
     )
 
-returns-2 : tie.Need-returns-2
+returns-2 : tie.Need-returns
 returns-2 c =
-    let d = c.before in (
-      unfit-answer _ _ _ _ _ _ _ _ d.before.before.offset.ensures d.before.room.ensures d.below.ensures
-          c.if1.false,
-      unfit-left _ _ _ _ _ _ _ _ d.before.before.offset.ensures d.before.room.ensures d.below.ensures
-          c.if1.false,
+    (
+      unfit-answer _ _ _ _ _ _ _ _ c.offset-j.ensures c.room.ensures c.below.ensures
+          c.if-c-room.false,
+      unfit-left _ _ _ _ _ _ _ _ c.offset-j.ensures c.room.ensures c.below.ensures
+          c.if-c-room.false,
     )
 
 pub put_number_spec : {M : Type 1} → statement M

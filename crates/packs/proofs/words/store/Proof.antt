@@ -10,60 +10,60 @@ use Rattle.bits.proofs.Next.{number-none, number_turn}
 use Rattle.packs.proofs.words.store.Statement.{statement}
 use Rattle.packs.proofs.words.store.Tie as tie
 
-abbrev invariant-loop : tie.invariant-loop
+abbrev invariant-loop : tie.invariant-loop-j
 invariant-loop out₀ k c x j₀ out j =
     (j ≤ c) × (length out ≡ length out₀) × (out ≡ (take k out₀ ++ runs (bit_of (c * 8) x) 0 8 j) ++ drop (k + j) out₀)
 
-abbrev decreases-loop : tie.decreases-loop
+abbrev decreases-loop : tie.decreases-loop-j
 decreases-loop out₀ k c x j₀ out j = c - j
 
-loop-holds : tie.Need-loop-init invariant-loop decreases-loop
+loop-holds : tie.Need-loop-j-init invariant-loop decreases-loop
 loop-holds c =
     let a = c.args in
     (omega arith, refl, number-none a.out.now a.k (bit_of (a.c * 8) a.x))
 
-sub_out : tie.Need-overflow-sub-out invariant-loop decreases-loop
+sub_out : tie.Need-overflow_sub-out invariant-loop decreases-loop
 sub_out c = omega arith
 
-sub-out-2 : tie.Need-overflow-sub-out-2 invariant-loop decreases-loop
+sub-out-2 : tie.Need-overflow_sub-out-in-loop-j invariant-loop decreases-loop
 sub-out-2 c = omega arith
 
-mul-out : tie.Need-overflow-mul-out invariant-loop decreases-loop
+mul-out : tie.Need-overflow_mul-out invariant-loop decreases-loop
 mul-out c = omega arith
 
-shr-out : tie.Need-overflow-shr-out invariant-loop decreases-loop
+shr-out : tie.Need-overflow_shr-out invariant-loop decreases-loop
 shr-out c = omega arith
 
-add-out : tie.Need-overflow-add-out invariant-loop decreases-loop
+add-out : tie.Need-overflow_add-out invariant-loop decreases-loop
 add-out c = omega arith
 
-slice-write-out : tie.Need-slice-write-out invariant-loop decreases-loop
+slice-write-out : tie.Need-bounds-out-k invariant-loop decreases-loop
 slice-write-out c = omega arith
 
-add-j : tie.Need-overflow-add-j invariant-loop decreases-loop
+add-j : tie.Need-overflow_add-j invariant-loop decreases-loop
 add-j c = omega arith
 
-loop-less : tie.Need-loop-smaller invariant-loop decreases-loop
+loop-less : tie.Need-loop-j-smaller invariant-loop decreases-loop
 loop-less c = omega arith
 
-loop-again : tie.Need-loop-preserved invariant-loop decreases-loop
+loop-again : tie.Need-loop-j-preserved invariant-loop decreases-loop
 loop-again c =
-    let l = c.before.loop in
-    let a = c.before.before.args in (
+    let l = c.loop-j in
+    let a = c.args in (
       omega arith,
       simp length-set l.invariant.1,
       number_turn a.out.now l.out a.k a.c a.x l.j
-          (omega arith) c.before.before.requires.1.0 c.loop-test.true l.invariant.2,
+          (omega arith) c.requires.1.0 c.loop-j-test.true l.invariant.2,
     )
 
-same_length : tie.Need-same-length invariant-loop decreases-loop
+same_length : tie.Need-shape_of-out invariant-loop decreases-loop
 same_length c = omega arith
 
 returns : tie.Need-returns invariant-loop decreases-loop
 unfolding number_at
 returns c =
-    let l = c.before.loop in
-    let a = c.before.before.args in
+    let l = c.loop-j in
+    let a = c.args in
     let e : l.j ≡ a.c = omega arith in
     l.invariant.2
     ∙ ap (λ (j : ℕ). (take a.k a.out.now ++ runs (bit_of (a.c * 8) a.x) 0 8 j)

@@ -13,21 +13,21 @@ use Rattle.bits.proofs.Ones.{count-le, count-split, ones_mask}
 use Rattle.runs.proofs.counting.ones.Statement.{statement}
 use Rattle.runs.proofs.counting.ones.Tie as tie
 
-sub-mask-2 : tie.Need-overflow-sub-mask-2
+sub-mask-2 : tie.Need-overflow_sub-mask-2
 sub-mask-2 c =
-    let q = 8 - c.before.args.n % 8 in
+    let q = 8 - c.args.n % 8 in
     rw (one_shl 32 q (omega arith)) (pow_mono {j = 8} (omega arith))
 
 whole : (c : tie.After-at) →
-    let a = c.before.before.before.args in
-    c.before.ones-whole.result + ones (bit_and c.at.result (256 - 1 * 2 ^ (8 - a.n % 8) % 2 ^ 32))
+    let a = c.args in
+    c.ones_whole.result + ones (bit_and c.at.result (256 - 1 * 2 ^ (8 - a.n % 8) % 2 ^ 32))
     ≡ count (bits_in 8 a.s.now) (a.p * 8) a.n
 whole c =
-    let a = c.before.before.before.args in
+    let a = c.args in
     let f = bits_in 8 a.s.now in
     let h = c.at.ensures in
     let p : (a.p + a.n / 8) * 8 ≡ a.p * 8 + a.n / 8 * 8 = omega arith in
-    ap₂ (λ (x y : ℕ). x + ones (bit_and c.at.result (256 - y))) c.before.ones-whole.ensures
+    ap₂ (λ (x y : ℕ). x + ones (bit_and c.at.result (256 - y))) c.ones_whole.ensures
     (one_shl 32 (8 - a.n % 8) (omega arith))
     ∙ ap (λ (x : ℕ). count f (a.p * 8) (a.n / 8 * 8) + ones (bit_and x (256 - 2 ^ (8 - a.n % 8)))) h
     ∙ ap (λ (x : ℕ). count f (a.p * 8) (a.n / 8 * 8) + x)
@@ -35,9 +35,9 @@ whole c =
     ∙ ap (λ (x : ℕ). count f x (a.n % 8)) p)
     ∙ sym (count-split f (a.p * 8) (a.n / 8 * 8) (a.n % 8)) ∙ ap (count f (a.p * 8)) (div-add-mod' a.n 8)
 
-add-result : tie.Need-overflow-add-result
+add-result : tie.Need-overflow_add-result
 add-result c =
-    let a = c.before.before.before.args in
+    let a = c.args in
     omega (arith, whole c, count-le (bits_in-bits 8 a.s.now) (a.p * 8) a.n)
 
 returns : tie.Need-returns

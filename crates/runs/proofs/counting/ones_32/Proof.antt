@@ -11,45 +11,43 @@ use Rattle.runs.proofs.Tallies.{then}
 use Rattle.runs.proofs.counting.ones_32.Statement.{statement}
 use Rattle.runs.proofs.counting.ones_32.Tie as tie
 
-two : (c : tie.After-reversed82) →
-    let a = c.before.before.before.args in
-    ones c.before.reversed8.result + ones c.reversed82.result ≡ count (bits_in 8 a.s.now) (a.p * 8) 128
+two : (c : tie.After-reversed8-2) →
+    let a = c.args in
+    ones c.reversed8.result + ones c.reversed8-2.result ≡ count (bits_in 8 a.s.now) (a.p * 8) 128
 two c =
-    let a = c.before.before.before.args in
-    then a.s.now a.p 8 64 _ _ c.before.reversed8.ensures c.reversed82.ensures
+    let a = c.args in
+    then a.s.now a.p 8 64 _ _ c.reversed8.ensures c.reversed8-2.ensures
 
-three : (c : tie.After-reversed83) →
-    let d = c.before in
-    let a = d.before.before.before.args in
-    ones d.before.reversed8.result + ones d.reversed82.result + ones c.reversed83.result
+three : (c : tie.After-reversed8-3) →
+    let a = c.args in
+    ones c.reversed8.result + ones c.reversed8-2.result + ones c.reversed8-3.result
     ≡ count (bits_in 8 a.s.now) (a.p * 8) 192
 three c =
-    let a = c.before.before.before.before.args in
-    then a.s.now a.p 16 64 _ _ (two c.before) c.reversed83.ensures
+    let a = c.args in
+    then a.s.now a.p 16 64 _ _ (two c.before) c.reversed8-3.ensures
 
-four : (c : tie.After-reversed84) →
-    let d = c.before.before in
-    let a = d.before.before.before.args in
-    ones d.before.reversed8.result + ones d.reversed82.result + ones c.before.reversed83.result
-    + ones c.reversed84.result
+four : (c : tie.After-reversed8-4) →
+    let a = c.args in
+    ones c.reversed8.result + ones c.reversed8-2.result + ones c.reversed8-3.result
+    + ones c.reversed8-4.result
     ≡ count (bits_in 8 a.s.now) (a.p * 8) 256
 four c =
-    let a = c.before.before.before.before.before.args in
-    then a.s.now a.p 24 64 _ _ (three c.before) c.reversed84.ensures
+    let a = c.args in
+    then a.s.now a.p 24 64 _ _ (three c.before) c.reversed8-4.ensures
 
-add-result : tie.Need-overflow-add-result
+add-result : tie.Need-overflow_add-result
 add-result c =
-    let a = c.before.before.before.args in
+    let a = c.args in
     omega (arith, two c, count-le (bits_in-bits 8 a.s.now) (a.p * 8) 128)
 
-add-result-2 : tie.Need-overflow-add-result-2
+add-result-2 : tie.Need-overflow_add-result-2
 add-result-2 c =
-    let a = c.before.before.before.before.args in
+    let a = c.args in
     omega (arith, three c, count-le (bits_in-bits 8 a.s.now) (a.p * 8) 192)
 
-add-result-3 : tie.Need-overflow-add-result-3
+add-result-3 : tie.Need-overflow_add-result-3
 add-result-3 c =
-    let a = c.before.before.before.before.before.args in
+    let a = c.args in
     omega (arith, four c, count-le (bits_in-bits 8 a.s.now) (a.p * 8) 256)
 
 returns : tie.Need-returns

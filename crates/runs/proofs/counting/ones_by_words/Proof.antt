@@ -12,44 +12,42 @@ use Rattle.runs.proofs.Tallies.{words_taken, few-taken, taken-few}
 use Rattle.runs.proofs.counting.ones_by_words.Statement.{statement}
 use Rattle.runs.proofs.counting.ones_by_words.Tie as tie
 
-one : (c : tie.After-ones-wanted) → c.«ones-wanted».result ≤ 64
+one : (c : tie.After-ones_wanted) → c.ones_wanted.result ≤ 64
 one c =
-    let a = c.before.before.before.args in
-    taken-few _ _ _ (ltb 0 ((a.n - 1) / 64)) c.«ones-wanted».ensures
+    let a = c.args in
+    taken-few _ _ _ (ltb 0 ((a.n - 1) / 64)) c.ones_wanted.ensures
 
-two : (c : tie.After-ones-wanted2) → c.«ones-wanted2».result ≤ 64
+two : (c : tie.After-ones_wanted-2) → c.ones_wanted-2.result ≤ 64
 two c =
-    let a = c.before.before.before.before.args in
-    taken-few _ _ _ (ltb 1 ((a.n - 1) / 64)) c.«ones-wanted2».ensures
+    let a = c.args in
+    taken-few _ _ _ (ltb 1 ((a.n - 1) / 64)) c.ones_wanted-2.ensures
 
-three : (c : tie.After-ones-wanted3) → c.«ones-wanted3».result ≤ 64
+three : (c : tie.After-ones_wanted-3) → c.ones_wanted-3.result ≤ 64
 three c =
-    let a = c.before.before.before.before.before.args in
-    taken-few _ _ _ (ltb 2 ((a.n - 1) / 64)) c.«ones-wanted3».ensures
+    let a = c.args in
+    taken-few _ _ _ (ltb 2 ((a.n - 1) / 64)) c.ones_wanted-3.ensures
 
-all : (c : tie.After-ones-wanted3) →
-    let leading = c.before.before.before in
-    let a = leading.before.before.args in
-    c.before.before.«ones-wanted».result + c.before.«ones-wanted2».result + c.«ones-wanted3».result
-    + ones leading.leading.result
+all : (c : tie.After-ones_wanted-3) →
+    let a = c.args in
+    c.ones_wanted.result + c.ones_wanted-2.result + c.ones_wanted-3.result
+    + ones c.leading-last.result
     ≡ count (bits_in 8 a.s.now) (a.p * 8) a.n
 all c =
-    let leading = c.before.before.before in
-    let a = leading.before.before.args in
+    let a = c.args in
     few-taken a.s.now a.p a.n ((a.n - 1) / 64) _ _ (omega arith)
-    (words_taken a.s.now a.p ((a.n - 1) / 64) _ _ _ (omega arith) c.before.before.«ones-wanted».ensures
-    c.before.«ones-wanted2».ensures c.«ones-wanted3».ensures)
-    leading.leading.ensures
+    (words_taken a.s.now a.p ((a.n - 1) / 64) _ _ _ (omega arith) c.ones_wanted.ensures
+    c.ones_wanted-2.ensures c.ones_wanted-3.ensures)
+    c.leading-last.ensures
 
-add-result : tie.Need-overflow-add-result
+add-result : tie.Need-overflow_add-result
 add-result c = omega (arith, one c.before, two c)
 
-add-result-2 : tie.Need-overflow-add-result-2
+add-result-2 : tie.Need-overflow_add-result-2
 add-result-2 c = omega (arith, one c.before.before, two c.before, three c)
 
-add-result-3 : tie.Need-overflow-add-result-3
+add-result-3 : tie.Need-overflow_add-result-3
 add-result-3 c =
-    let a = c.before.before.before.before.before.args in
+    let a = c.args in
     omega (arith, all c, count-le (bits_in-bits 8 a.s.now) (a.p * 8) a.n)
 
 returns : tie.Need-returns

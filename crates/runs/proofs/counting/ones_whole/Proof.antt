@@ -6,18 +6,16 @@ use Rattle.bits.proofs.Ones.{count-inside, count_past}
 use Rattle.runs.proofs.counting.ones_whole.Statement.{statement}
 use Rattle.runs.proofs.counting.ones_whole.Tie as tie
 
-returns-2 : tie.Need-returns-2
+returns-2 : tie.Need-returns-then-p-s
 returns-2 c =
-    let k = c.before.before.before in
-    let a = k.before.args in
-    c.ones-inside2.ensures
-    ∙ count-inside a.s.now a.p _ a.c (λ i. (k.shared-slice-known.given i).fits) (omega arith) (omega arith)
+    let a = c.args in
+    c.ones_inside-then-p-s.ensures
+    ∙ count-inside a.s.now a.p _ a.c (λ i. (c.shared_slice_known-1.given i).fits) (omega arith) (omega arith)
 
-returns-3 : tie.Need-returns-3
+returns-3 : tie.Need-returns
 returns-3 c =
-    let k = c.before in
-    let a = k.before.args in
-    sym (count_past a.s.now _ _ (λ i. (k.shared-slice-known.given i).fits) (omega arith))
+    let a = c.args in
+    sym (count_past a.s.now _ _ (λ i. (c.shared_slice_known-1.given i).fits) (omega arith))
 
 pub ones_whole_spec : {M : Type 1} → statement M
 ones_whole_spec =

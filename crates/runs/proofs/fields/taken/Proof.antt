@@ -11,8 +11,8 @@ use Rattle.runs.proofs.fields.taken.Tie as tie
 
 returns : tie.Need-returns
 returns c =
-    let a = c.before.before.before.args in
-    part-is a.s.now (a.from / 8) 40 (a.from % 8) a.n (40 - a.from % 8 - a.n) _ _ c.before.five.ensures
+    let a = c.args in
+    part-is a.s.now (a.from / 8) 40 (a.from % 8) a.n (40 - a.from % 8 - a.n) _ _ c.five-all.ensures
     (omega arith) c.part.ensures
     ∙ ap (λ (x : ℕ). run (bits_in 8 a.s.now) x a.n) (div-add-mod' a.from 8)
 

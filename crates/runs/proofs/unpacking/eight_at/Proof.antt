@@ -8,9 +8,9 @@ use Rattle.runs.proofs.Parts.{first-bits}
 use Rattle.runs.proofs.unpacking.eight_at.Statement.{statement}
 use Rattle.runs.proofs.unpacking.eight_at.Tie as tie
 
-returns : tie.Need-returns
+returns : tie.Need-returns-then-bits-le32
 returns c =
-    let a = c.before.before.before.args in
+    let a = c.args in
     let t = a.skip + a.n * 8 in
     ap (λ (x : ℕ). x / 2 ^ (32 - t)) c.word.ensures
     ∙ first-bits (bits_in-bits 8 a.s.now) (a.k * 8) t (32 - t) 32 (omega arith)

@@ -7,11 +7,10 @@ use Rattle.runs.proofs.Lists.{no-unpack-answer, no-unpack-left}
 use Rattle.runs.proofs.unpacking.unpack.Statement.{statement}
 use Rattle.runs.proofs.unpacking.unpack.Tie as tie
 
-unpack-all-requires : tie.Need-unpack-all-requires
+unpack-all-requires : tie.Need-unpack_all-requires
 unpack-all-requires c κs =
-    let t = c.before in
-    let a = t.before.before.before.args in
-    let h = t.if1.true in (
+    let a = c.args in
+    let h = c.if-n-m.true in (
       unpack-width a.s.now a.out.now a.at a.n a.m h,
       (
         unpack-few a.s.now a.out.now a.at a.n a.m h (omega arith) (omega arith),
@@ -20,21 +19,20 @@ unpack-all-requires c κs =
       ),
     )
 
-returns : tie.Need-returns
+returns : tie.Need-returns-then-n-m
 returns c =
-    let t = c.before.before.before.before in
-    let a = t.before.before.before.args in (
-      unpack-answer a.s.now a.out.now a.at a.n a.m t.if1.true,
-      c.before.before.unpack-all.ensures
-          ∙ unpack-left a.s.now a.out.now a.at a.n a.m t.if1.true,
+    let a = c.args in (
+      unpack-answer a.s.now a.out.now a.at a.n a.m c.if-n-m.true,
+      c.unpack_all.ensures
+          ∙ unpack-left a.s.now a.out.now a.at a.n a.m c.if-n-m.true,
     )
 
-returns-2 : tie.Need-returns-2
+returns-2 : tie.Need-returns
 returns-2 c =
-    let a = c.before.before.before.args in (
-      no-unpack-answer a.s.now a.out.now a.at a.n a.m c.if1.false,
+    let a = c.args in (
+      no-unpack-answer a.s.now a.out.now a.at a.n a.m c.if-n-m.false,
       no-unpack-left a.s.now
-          a.out.now a.at a.n a.m c.if1.false,
+          a.out.now a.at a.n a.m c.if-n-m.false,
     )
 
 pub unpack_spec : {M : Type 1} → statement M

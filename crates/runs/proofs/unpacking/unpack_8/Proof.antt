@@ -13,32 +13,31 @@ use lib.ListN.{length}
 use Rattle.runs.proofs.unpacking.unpack_8.Statement.{statement}
 use Rattle.runs.proofs.unpacking.unpack_8.Tie as tie
 
-abbrev invariant-loop : tie.invariant-loop
+abbrev invariant-loop : tie.invariant-loop-i
 invariant-loop s k out₀ m i₀ out i =
     (i ≤ m) × (length out ≡ length out₀) × (out ≡ runs (bits_in 8 s) (k * 8) 8 i ++ drop i out₀)
 
-abbrev decreases-loop : tie.decreases-loop
+abbrev decreases-loop : tie.decreases-loop-i
 decreases-loop s k out₀ m i₀ out i = m - i
 
-loop-holds : tie.Need-loop-init invariant-loop decreases-loop
+loop-holds : tie.Need-loop-i-init invariant-loop decreases-loop
 unfolding runs tab
 loop-holds c = (omega arith, refl, refl)
 
-loop-again : tie.Need-loop-preserved invariant-loop decreases-loop
+loop-again : tie.Need-loop-i-preserved invariant-loop decreases-loop
 loop-again c =
-    let l = c.before.before.before.loop in
-    let g = c.before.before.before.before.before in
-    let a = g.before.args in (
+    let l = c.loop-i in
+    let a = c.args in (
       omega arith,
       simp length-set l.invariant.1,
       octet_turn a.s.now a.out.now l.out a.k 8 l.i c.low.result _ (omega arith) l.invariant.2
-          c.low.ensures.0 (at_8 a.s.now a.k l.i (λ i. (g.shared-slice-known.given i).fits)),
+          c.low.ensures.0 (at_8 a.s.now a.k l.i (λ i. (c.shared_slice_known-1.given i).fits)),
     )
 
 returns : tie.Need-returns invariant-loop decreases-loop
 returns c =
-    let l = c.before.loop in
-    let a = c.before.before.before.before.args in
+    let l = c.loop-i in
+    let a = c.args in
     read_same a.s.now a.out.now l.out (a.k * 8) 8 l.i a.m (omega arith) l.invariant.2
 
 pub unpack_8_spec : {M : Type 1} → statement M

@@ -15,64 +15,60 @@ use lib.ListN.{length, drop, length-set}
 use Rattle.runs.proofs.unpacking.unpack_eights.Statement.{statement}
 use Rattle.runs.proofs.unpacking.unpack_eights.Tie as tie
 
-abbrev invariant-loop2 : tie.invariant-loop2
+abbrev invariant-loop2 : tie.invariant-loop-j
 invariant-loop2 s at n out₀ m skip k i w j₀ up₀ out j up =
     (j ≤ 8) × (up + j * n ≡ n * 8) × (length out ≡ length out₀) × Read s at n m out₀ i out (i + j)
 
-abbrev decreases-loop2 : tie.decreases-loop2
+abbrev decreases-loop2 : tie.decreases-loop-j
 decreases-loop2 s at n out₀ m skip k i w j₀ up₀ out j up = 8 - j
 
-abbrev invariant-loop : tie.invariant-loop
+abbrev invariant-loop : tie.invariant-loop-i
 invariant-loop s at n out₀ m skip k₀ i₀ out k i =
     (i ≤ m) × (k * 8 + skip ≡ at + i * n) × (length out ≡ length out₀) × (out ≡ runs (bits_in 8 s) at n i ++ drop i out₀)
 
-abbrev decreases-loop : tie.decreases-loop
+abbrev decreases-loop : tie.decreases-loop-i
 decreases-loop s at n out₀ m skip k₀ i₀ out k i = m - i
 
-loop-holds : tie.Need-loop-init invariant-loop2 decreases-loop2 invariant-loop decreases-loop
+loop-holds : tie.Need-loop-i-init invariant-loop2 decreases-loop2 invariant-loop decreases-loop
 unfolding runs tab
 loop-holds c = search rules
 
-eight-at-requires : tie.Need-eight-at-requires invariant-loop2 decreases-loop2 invariant-loop decreases-loop
+eight-at-requires : tie.Need-eight_at-w-requires invariant-loop2 decreases-loop2 invariant-loop decreases-loop
 eight-at-requires c κs =
-    let l = c.before.loop in
-    let a = c.before.before.before.before.args in
+    let l = c.loop-i in
+    let a = c.args in
     let h = turn_inside a.s.now a.at a.n a.m l.i l.k l.invariant.1 (omega arith) (omega arith) in
     (omega arith, omega arith)
 
-loop2-holds : tie.Need-loop2-init invariant-loop2 decreases-loop2 invariant-loop decreases-loop
+loop2-holds : tie.Need-loop-j-init invariant-loop2 decreases-loop2 invariant-loop decreases-loop
 loop2-holds c =
-    let l = c.before.before.loop in
-    let a = c.before.before.before.before.before.args in
+    let l = c.loop-i in
+    let a = c.args in
     (omega arith, omega (arith, zero-mul a.n), refl, read_none a.s.now a.at a.n a.m l.out l.i)
 
-sub-up : tie.Need-overflow-sub-up invariant-loop2 decreases-loop2 invariant-loop decreases-loop
+sub-up : tie.Need-overflow_sub-up invariant-loop2 decreases-loop2 invariant-loop decreases-loop
 sub-up c =
-    let q = c.before.loop2 in
-    let a = c.before.before.before.before.before.before.before.args in
+    let q = c.loop-j in
+    let a = c.args in
     omega (arith, next_le q.j 8 a.n (omega arith))
 
 -- value j of the eight is a part of their number
 value : (c : tie.After-part invariant-loop2 decreases-loop2 invariant-loop decreases-loop) →
-    let t = c.before.before in
-    let l = t.before.before.before.loop in
-    let a = t.before.before.before.before.before.before.args in
-    c.part.result ≡ run (bits_in 8 a.s.now) (l.k * 8 + (a.at % 8 + t.loop2.j * a.n)) a.n
+    let l = c.loop-i in
+    let a = c.args in
+    c.part.result ≡ run (bits_in 8 a.s.now) (l.k * 8 + (a.at % 8 + c.loop-j.j * a.n)) a.n
 value c =
-    let t = c.before.before in
-    let q = t.loop2 in
-    let e = t.before in
-    let a = e.before.before.before.before.before.args in
+    let q = c.loop-j in
+    let a = c.args in
     let h = next_le q.j 8 a.n (omega arith) in
     part-is a.s.now _ (a.at % 8 + a.n * 8) (a.at % 8 + q.j * a.n) a.n (q.up - a.n) _ _
-    e.eight-at.ensures (omega arith) c.part.ensures
+    c.eight_at-w.ensures (omega arith) c.part.ensures
 
-loop2-again : tie.Need-loop2-preserved invariant-loop2 decreases-loop2 invariant-loop decreases-loop
+loop2-again : tie.Need-loop-j-preserved invariant-loop2 decreases-loop2 invariant-loop decreases-loop
 loop2-again c =
-    let t = c.before.before in
-    let q = t.loop2 in
-    let l = t.before.before.before.loop in
-    let a = t.before.before.before.before.before.before.args in
+    let q = c.loop-j in
+    let l = c.loop-i in
+    let a = c.args in
     let h = next_le q.j 8 a.n (omega arith) in
     let r : l.i + (q.j + 1) ≡ l.i + q.j + 1 = omega arith in (
       omega arith,
@@ -83,18 +79,18 @@ loop2-again c =
           (omega arith) q.invariant.3 (value c) (omega (arith, add-mul l.i q.j a.n))),
     )
 
-add-k : tie.Need-overflow-add-k invariant-loop2 decreases-loop2 invariant-loop decreases-loop
+add-k : tie.Need-overflow_add-k invariant-loop2 decreases-loop2 invariant-loop decreases-loop
 add-k c =
-    let l = c.before.before.before.before.loop in
-    let a = c.before.before.before.before.before.before.before.args in
+    let l = c.loop-i in
+    let a = c.args in
     let h = turn_inside a.s.now a.at a.n a.m l.i l.k l.invariant.1 (omega arith) (omega arith) in
     omega arith
 
-loop-again : tie.Need-loop-preserved invariant-loop2 decreases-loop2 invariant-loop decreases-loop
+loop-again : tie.Need-loop-i-preserved invariant-loop2 decreases-loop2 invariant-loop decreases-loop
 loop-again c =
-    let q = c.before.loop2 in
-    let l = c.before.before.before.before.loop in
-    let a = c.before.before.before.before.before.before.before.args in
+    let q = c.loop-j in
+    let l = c.loop-i in
+    let a = c.args in
     let j : l.i + q.j ≡ l.i + 8 = omega arith in (
       omega arith,
       eight a.at a.n l.i l.k l.invariant.1,

@@ -13,46 +13,43 @@ use lib.ListN.{length, drop, length-set}
 use Rattle.runs.proofs.unpacking.unpack_inside.Statement.{statement}
 use Rattle.runs.proofs.unpacking.unpack_inside.Tie as tie
 
-abbrev invariant-loop : tie.invariant-loop
+abbrev invariant-loop : tie.invariant-loop-i
 invariant-loop s at n out₀ m i₀ place₀ out i place =
     (i ≤ m) × (place ≡ at + i * n) × (length out ≡ length out₀) × Read s at n m out₀ i₀ out i
 
-abbrev decreases-loop : tie.decreases-loop
+abbrev decreases-loop : tie.decreases-loop-i
 decreases-loop s at n out₀ m i₀ place₀ out i place = m - i
 
-mul-place : tie.Need-overflow-mul-place invariant-loop decreases-loop
+mul-place : tie.Need-overflow_mul-place invariant-loop decreases-loop
 mul-place c =
-    let t = c.before.before in
-    let a = t.before.before.before.before.args in
-    record { fits = omega (arith, mul-le-mul_right a.n t.unpack-most.ensures.0) }
+    let a = c.args in
+    record { fits = omega (arith, mul-le-mul_right a.n c.unpack_most-i.ensures.0) }
 
-add-place : tie.Need-overflow-add-place invariant-loop decreases-loop
+add-place : tie.Need-overflow_add-place invariant-loop decreases-loop
 add-place c =
-    let t = c.before.before in
-    let a = t.before.before.before.before.args in
-    record { fits = omega (arith, mul-le-mul_right a.n t.unpack-most.ensures.0) }
+    let a = c.args in
+    record { fits = omega (arith, mul-le-mul_right a.n c.unpack_most-i.ensures.0) }
 
-loop-holds : tie.Need-loop-init invariant-loop decreases-loop
+loop-holds : tie.Need-loop-i-init invariant-loop decreases-loop
 loop-holds c = (omega arith, refl, refl, λ d k e. e)
 
 value-requires : tie.Need-value-requires invariant-loop decreases-loop
 value-requires c κs =
-    let q = c.before.loop in
-    let a = c.before.before.before.before.before.before.before.before.args in
+    let q = c.loop-i in
+    let a = c.args in
     let h = inside a.s.now a.at a.n a.m q.i q.place q.invariant.1 (omega arith) (omega arith) in
     (h, omega arith)
 
-add-place-2 : tie.Need-overflow-add-place-2 invariant-loop decreases-loop
+add-place-2 : tie.Need-overflow_add-place-in-loop-i invariant-loop decreases-loop
 add-place-2 c =
-    let q = c.before.before.loop in
-    let a = c.before.before.before.before.before.before.before.before.before.args in
+    let q = c.loop-i in
+    let a = c.args in
     omega (arith, next_le q.i a.m a.n (omega arith))
 
-loop-again : tie.Need-loop-preserved invariant-loop decreases-loop
+loop-again : tie.Need-loop-i-preserved invariant-loop decreases-loop
 loop-again c =
-    let q = c.before.before.loop in
-    let t = c.before.before.before.before.before in
-    let a = t.before.before.before.before.args in
+    let q = c.loop-i in
+    let a = c.args in
     let e : q.place / 8 * 8 + q.place % 8 ≡ a.at + q.i * a.n = omega arith in (
       omega arith,
       omega (arith, next q.i a.n),
@@ -63,11 +60,10 @@ loop-again c =
 
 returns : tie.Need-returns invariant-loop decreases-loop
 returns c =
-    let q = c.before.loop in
-    let t = c.before.before.before.before in
-    let a = t.before.before.before.before.args in
+    let q = c.loop-i in
+    let a = c.args in
     let e : q.i ≡ a.m = omega arith in
-    q.invariant.3 a.out.now (omega arith) t.unpack-most.ensures.1
+    q.invariant.3 a.out.now (omega arith) c.unpack_most-i.ensures.1
     ∙ ap (λ (x : ℕ). runs (bits_in 8 a.s.now) a.at a.n x ++ drop x a.out.now) e
 
 pub unpack_inside_spec : {M : Type 1} → statement M

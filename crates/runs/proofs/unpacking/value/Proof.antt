@@ -8,8 +8,8 @@ use Rattle.runs.proofs.unpacking.value.Tie as tie
 
 returns : tie.Need-returns
 returns c =
-    let a = c.before.before.before.args in
-    part-is a.s.now a.k 32 a.skip a.n (32 - a.skip - a.n) _ _ c.before.word.ensures (omega arith)
+    let a = c.args in
+    part-is a.s.now a.k 32 a.skip a.n (32 - a.skip - a.n) _ _ c.word.ensures (omega arith)
     c.part.ensures
 
 pub value_spec : {M : Type 1} → statement M

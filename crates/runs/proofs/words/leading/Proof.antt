@@ -10,7 +10,7 @@ use Rattle.runs.proofs.words.leading.Tie as tie
 
 returns : tie.Need-returns
 returns c =
-    let a = c.before.before.args in
+    let a = c.args in
     ap (λ (x : ℕ). x / 2 ^ (64 - a.c)) c.word8.ensures
     ∙ first-bits (bits_in-bits 8 a.s.now) (a.k * 8) a.c (64 - a.c) 64 (omega arith)
 

@@ -9,10 +9,10 @@ use Rattle.runs.proofs.Parts.{part-lt}
 use Rattle.runs.proofs.words.part.Statement.{statement}
 use Rattle.runs.proofs.words.part.Tie as tie
 
-rem-result : tie.Need-nonzero-rem-result
+rem-result : tie.Need-nonzero_rem-result
 rem-result c = rw (one_shl 64 c.args.n (omega arith)) (pow_pos c.args.n)
 
-cast-result : tie.Need-overflow-cast-result
+cast-result : tie.Need-overflow_cast-result
 cast-result c =
     let a = c.args in
     record { fits = rw (one_shl 64 a.n (omega arith)) (part-lt a.w a.up a.n (omega arith)) }

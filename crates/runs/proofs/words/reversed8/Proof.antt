@@ -9,9 +9,9 @@ use Rattle.runs.proofs.words.reversed8.Tie as tie
 
 returns : tie.Need-returns
 returns c =
-    let a = c.before.before.before.args in
-    let back = c.before.reversed in
-    let front = c.reversed2 in
+    let a = c.args in
+    let back = c.reversed in
+    let front = c.reversed-2 in
     ones_cat 32 back.result front.result front.ensures.1
     ∙ omega (arith, then a.s.now a.k 4 32 _ _ front.ensures.0 back.ensures.0)
 

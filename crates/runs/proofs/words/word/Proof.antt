@@ -8,15 +8,13 @@ use Rattle.runs.proofs.words.word.Tie as tie
 
 returns : tie.Need-returns
 returns c =
-    let w4 = c.wide4 in
-    let w3 = c.before.before.wide3 in
-    let w2 = c.before.before.before.before.wide2 in
-    let w1 = c.before.before.before.before.before.before in
-    let k = w1.before.before in
+    let w4 = c.wide-4 in
+    let w3 = c.wide-3 in
+    let w2 = c.wide-2 in
     ap₂ (λ (x y : ℕ). x * 256 + y)
-    (ap₂ (λ (x y : ℕ). x * 256 + y) (ap₂ (λ (x y : ℕ). x * 256 + y) w1.wide.ensures.0 w2.ensures.0)
+    (ap₂ (λ (x y : ℕ). x * 256 + y) (ap₂ (λ (x y : ℕ). x * 256 + y) c.wide.ensures.0 w2.ensures.0)
     w3.ensures.0) w4.ensures.0
-    ∙ run-four k.before.args.s.now k.before.args.k (λ i. (k.shared-slice-known.given i).fits)
+    ∙ run-four c.args.s.now c.args.k (λ i. (c.shared_slice_known-1.given i).fits)
 
 pub word_spec : {M : Type 1} → statement M
 word_spec =

@@ -8,14 +8,14 @@ use borrow.Author.Rules.{rules}
 use Rattle.runs.proofs.words.word8.Statement.{statement}
 use Rattle.runs.proofs.words.word8.Tie as tie
 
-mul-result : tie.Need-overflow-mul-result
+mul-result : tie.Need-overflow_mul-result
 mul-result c =
-    let a = c.before.before.args in
+    let a = c.args in
     omega (arith, run-lt (bits_in-bits 8 a.s.now) (a.k * 8) 32)
 
-add-result : tie.Need-overflow-add-result
+add-result : tie.Need-overflow_add-result
 add-result c =
-    let a = c.before.before.before.args in
+    let a = c.args in
     omega (
       arith,
       run-lt (bits_in-bits 8 a.s.now) (a.k * 8) 32,
@@ -25,8 +25,8 @@ add-result c =
 
 returns : tie.Need-returns
 returns c =
-    let a = c.before.before.before.args in
-    ap₂ (λ (x y : ℕ). x * 4294967296 + y) c.before.word.ensures c.word2.ensures ∙ run-eight a.s.now a.k
+    let a = c.args in
+    ap₂ (λ (x y : ℕ). x * 4294967296 + y) c.word.ensures c.word-2.ensures ∙ run-eight a.s.now a.k
 
 pub word8_spec : {M : Type 1} → statement M
 word8_spec =

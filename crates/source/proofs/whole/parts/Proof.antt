@@ -4,17 +4,17 @@ use borrow.Author.Rules.{rules}
 use Rattle.source.proofs.whole.parts.Statement.{statement}
 use Rattle.source.proofs.whole.parts.Tie as tie
 
-returns : tie.Need-returns
-returns c = naught _ c.if1.true
+returns : tie.Need-returns-then-b-eq0
+returns c = naught _ c.if-b-eq0.true
 
-returns-2 : tie.Need-returns-2
-returns-2 c = small _ c.before.if1.false c.if2.true
+returns-2 : tie.Need-returns-then-a-lt65
+returns-2 c = small _ c.if-b-eq0.false c.if-a-lt65.true
 
-returns-3 : tie.Need-returns-3
-returns-3 c = great _ c.before.before.if1.false c.if3.true
+returns-3 : tie.Need-returns-then-a-gt75
+returns-3 c = great _ c.if-b-eq0.false c.if-a-gt75.true
 
-returns-4 : tie.Need-returns-4
-returns-4 c = middle _ c.before.if2.false c.if3.false
+returns-4 : tie.Need-returns
+returns-4 c = middle _ c.if-a-lt65.false c.if-a-gt75.false
 
 pub parts_spec : {M : Type 1} → statement M
 parts_spec =

@@ -6,52 +6,52 @@ use borrow.Author.Rules.{rules}
 use Rattle.source.proofs.whole.spelling.Statement.{statement}
 use Rattle.source.proofs.whole.spelling.Tie as tie
 
-returns : tie.Need-returns
-returns c = out _ c.before.before.ranges.z (sym c.before.large.ensures ∙ c.if1.true)
+returns : tie.Need-returns-then-large
+returns c = out _ c.ranges.z (sym c.large.ensures ∙ c.if-large.true)
 
-sub-size : tie.Need-overflow-sub-size
+sub-size : tie.Need-overflow_sub-size
 sub-size c =
-    turned-fits _ c.before.before.before.ranges.z (sym c.before.before.large.ensures ∙ c.before.if1.false)
-    c.if2.true
+    turned-fits _ c.ranges.z (sym c.large.ensures ∙ c.if-large.false)
+    c.if-z-lt0.true
 
-cast-spelt : tie.Need-overflow-cast-spelt
+cast-spelt : tie.Need-overflow_cast-size
 cast-spelt c =
-    let t = turned-size _ c.before.before.before.ranges.z (sym c.before.before.large.ensures ∙ c.before.if1.false) c.if2.true in
+    let t = turned-size _ c.ranges.z (sym c.large.ensures ∙ c.if-large.false) c.if-z-lt0.true in
     rw t.0 (tt, record { fits = omega arith })
 
 spelt-requires : tie.Need-spelt-requires
 spelt-requires c κs =
-    let t = turned-size _ c.before.before.before.ranges.z (sym c.before.before.large.ensures ∙ c.before.if1.false) c.if2.true in
+    let t = turned-size _ c.ranges.z (sym c.large.ensures ∙ c.if-large.false) c.if-z-lt0.true in
     rw t.0 t.1
 
-returns-2 : tie.Need-returns-2
+returns-2 : tie.Need-returns-then-z-lt0
 returns-2 c =
-    minus_is _ c.before.before.before.before.ranges.z
-    (sym c.before.before.before.large.ensures ∙ c.before.before.if1.false) c.before.if2.true
+    minus_is _ c.ranges.z
+    (sym c.large.ensures ∙ c.if-large.false) c.if-z-lt0.true
     _ c.spelt.ensures.0
 
-cast-spelt-2 : tie.Need-overflow-cast-spelt-2
+cast-spelt-2 : tie.Need-overflow_cast-z
 cast-spelt-2 c =
-    let t = kept-size _ c.before.before.before.before.ranges.z (sym c.before.before.before.large.ensures ∙ c.before.before.if1.false) c.if3.true in
+    let t = kept-size _ c.ranges.z (sym c.large.ensures ∙ c.if-large.false) c.if-z-gt0.true in
     rw t.0 (tt, record { fits = omega arith })
 
-spelt-requires-2 : tie.Need-spelt-requires-2
+spelt-requires-2 : tie.Need-spelt-requires-then-z-gt0
 spelt-requires-2 c κs =
-    let t = kept-size _ c.before.before.before.before.ranges.z (sym c.before.before.before.large.ensures ∙ c.before.before.if1.false) c.if3.true in
+    let t = kept-size _ c.ranges.z (sym c.large.ensures ∙ c.if-large.false) c.if-z-gt0.true in
     rw t.0 t.1
 
-returns-3 : tie.Need-returns-3
+returns-3 : tie.Need-returns-then-z-gt0
 returns-3 c =
-    plus-is _ c.before.before.before.before.before.ranges.z
-    (sym c.before.before.before.before.large.ensures ∙ c.before.before.before.if1.false)
-    c.before.if3.true
-    _ c.spelt2.ensures.0
+    plus-is _ c.ranges.z
+    (sym c.large.ensures ∙ c.if-large.false)
+    c.if-z-gt0.true
+    _ c.spelt-then-z-gt0.ensures.0
 
-returns-4 : tie.Need-returns-4
+returns-4 : tie.Need-returns
 returns-4 c =
-    neither-is _ c.before.before.before.before.ranges.z
-    (sym c.before.before.before.large.ensures ∙ c.before.before.if1.false) c.before.if2.false
-    c.if3.false
+    neither-is _ c.ranges.z
+    (sym c.large.ensures ∙ c.if-large.false) c.if-z-lt0.false
+    c.if-z-gt0.false
 
 pub spelling_spec : {M : Type 1} → statement M
 spelling_spec =

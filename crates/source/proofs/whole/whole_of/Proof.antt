@@ -9,28 +9,28 @@ use borrow.Author.Rules.{rules}
 use Rattle.source.proofs.whole.whole_of.Statement.{statement}
 use Rattle.source.proofs.whole.whole_of.Tie as tie
 
-returns : tie.Need-returns
-returns c = number-none _ (sym c.before.whole-bad.ensures ∙ c.if1.true)
+returns : tie.Need-returns-then-whole_bad
+returns c = number-none _ (sym c.whole_bad.ensures ∙ c.if-whole_bad.true)
 
-cast-size : tie.Need-overflow-cast-size
+cast-size : tie.Need-overflow_cast-size
 cast-size c =
-    let h : c.parts.result / 1048576 ≤ source_most = size-most _ _ c.parts.ensures (sym c.before.before.whole-bad.ensures ∙ c.before.if1.false) in
+    let h : c.parts.result / 1048576 ≤ source_most = size-most _ _ c.parts.ensures (sym c.whole_bad.ensures ∙ c.if-whole_bad.false) in
     record { sfits = omega arith }
 
-returns-2 : tie.Need-returns-2
+returns-2 : tie.Need-returns-then-word-lt2147483648
 returns-2 c =
-    number-plus _ _ c.before.parts.ensures
-    (sym c.before.before.before.whole-bad.ensures ∙ c.before.before.if1.false) c.if2.true
+    number-plus _ _ c.parts.ensures
+    (sym c.whole_bad.ensures ∙ c.if-whole_bad.false) c.if-word-lt2147483648.true
 
-sub-result : tie.Need-overflow-sub-result
+sub-result : tie.Need-overflow_sub-result
 sub-result c =
-    let h : c.before.parts.result / 1048576 ≤ source_most = size-most _ _ c.before.parts.ensures (sym c.before.before.before.whole-bad.ensures ∙ c.before.before.if1.false) in
-    neg_sub-fits (c.before.parts.result / 1048576) (omega arith)
+    let h : c.parts.result / 1048576 ≤ source_most = size-most _ _ c.parts.ensures (sym c.whole_bad.ensures ∙ c.if-whole_bad.false) in
+    neg_sub-fits (c.parts.result / 1048576) (omega arith)
 
-returns-3 : tie.Need-returns-3
+returns-3 : tie.Need-returns
 returns-3 c =
-    number-minus _ _ c.before.parts.ensures
-    (sym c.before.before.before.whole-bad.ensures ∙ c.before.before.if1.false) c.if2.false
+    number-minus _ _ c.parts.ensures
+    (sym c.whole_bad.ensures ∙ c.if-whole_bad.false) c.if-word-lt2147483648.false
 
 pub whole_of_spec : {M : Type 1} → statement M
 whole_of_spec =
