@@ -4,10 +4,10 @@ use Prim.Native.Nat.{◌≤◌, ◌-◌}
 use Rattle.bits_beside.proofs.differs.Statement.{statement}
 use Rattle.bits_beside.proofs.differs.Tie as tie
 
-abbrev invariant-loop : tie.invariant-loop
+abbrev invariant-loop : tie.invariant-loop-j
 invariant-loop s at n v j₀ j = j ≤ n
 
-abbrev decreases-loop : tie.decreases-loop
+abbrev decreases-loop : tie.decreases-loop-j
 decreases-loop s at n v j₀ j = n - j
 
 pub differs_spec : {M : Type 1} → statement M

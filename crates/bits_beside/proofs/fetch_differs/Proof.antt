@@ -4,10 +4,10 @@ use Prim.Native.Nat.{◌≤◌, ◌+◌, ◌-◌, ◌*◌}
 use Rattle.bits_beside.proofs.fetch_differs.Statement.{statement}
 use Rattle.bits_beside.proofs.fetch_differs.Tie as tie
 
-abbrev invariant-loop : tie.invariant-loop
+abbrev invariant-loop : tie.invariant-loop-k
 invariant-loop s n o wrong₀ k₀ place₀ wrong k place = (k ≤ 5) × (wrong ≤ k) × (place ≤ 8 + k * 96)
 
-abbrev decreases-loop : tie.decreases-loop
+abbrev decreases-loop : tie.decreases-loop-k
 decreases-loop s n o wrong₀ k₀ place₀ wrong k place = 5 - k
 
 pub fetch_differs_spec : {M : Type 1} → statement M

@@ -4,10 +4,10 @@ use Prim.Native.Nat.{◌≤◌, ◌-◌}
 use Rattle.bits_beside.proofs.ones.Statement.{statement}
 use Rattle.bits_beside.proofs.ones.Tie as tie
 
-abbrev invariant-loop : tie.invariant-loop
+abbrev invariant-loop : tie.invariant-loop-i
 invariant-loop s p n total₀ i₀ total i = (i ≤ n) × (total ≤ i)
 
-abbrev decreases-loop : tie.decreases-loop
+abbrev decreases-loop : tie.decreases-loop-i
 decreases-loop s p n total₀ i₀ total i = n - i
 
 pub ones_spec : {M : Type 1} → statement M

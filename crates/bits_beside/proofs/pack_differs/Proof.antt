@@ -6,17 +6,17 @@ use borrow.Author.Rules.{rules}
 use Rattle.bits_beside.proofs.pack_differs.Statement.{statement}
 use Rattle.bits_beside.proofs.pack_differs.Tie as tie
 
-mul-ends : tie.Need-overflow-mul-ends
-mul-ends c = let a = c.before.before.args in omega (arith, mul-le-mul_left {m = a.n} {n = 24} (length a.vs.now) (omega arith))
+mul-ends : tie.Need-overflow_mul-ends
+mul-ends c = let a = c.args in omega (arith, mul-le-mul_left {m = a.n} {n = 24} (length a.vs.now) (omega arith))
 
-add-pads : tie.Need-overflow-add-pads
-add-pads c = let a = c.before.before.args in omega (arith, mul-le-mul_left {m = a.n} {n = 24} (length a.vs.now) (omega arith))
+add-pads : tie.Need-overflow_add-pads
+add-pads c = let a = c.args in omega (arith, mul-le-mul_left {m = a.n} {n = 24} (length a.vs.now) (omega arith))
 
-mul-pads : tie.Need-overflow-mul-pads
-mul-pads c = let a = c.before.before.args in omega (arith, mul-le-mul_left {m = a.n} {n = 24} (length a.vs.now) (omega arith))
+mul-pads : tie.Need-overflow_mul-pads
+mul-pads c = let a = c.args in omega (arith, mul-le-mul_left {m = a.n} {n = 24} (length a.vs.now) (omega arith))
 
-bits-differ-requires : tie.Need-bits-differ-requires
-bits-differ-requires c κs = let a = c.before.before.before.before.before.before.before.before.before.before.before.args in omega (arith, mul-le-mul_left {m = a.n} {n = 24} (length a.vs.now) (omega arith))
+bits-differ-requires : tie.Need-bits_differ-requires
+bits-differ-requires c κs = let a = c.args in omega (arith, mul-le-mul_left {m = a.n} {n = 24} (length a.vs.now) (omega arith))
 
 pub pack_differs_spec : {M : Type 1} → statement M
 pack_differs_spec =

@@ -6,10 +6,10 @@ use lib.ListN.{length}
 use Rattle.bits_beside.proofs.turns_differ.Statement.{statement}
 use Rattle.bits_beside.proofs.turns_differ.Tie as tie
 
-abbrev invariant-loop : tie.invariant-loop
+abbrev invariant-loop : tie.invariant-loop-k
 invariant-loop n o s₀ k₀ s k = (k ≤ 128) × (length s ≡ 128)
 
-abbrev decreases-loop : tie.decreases-loop
+abbrev decreases-loop : tie.decreases-loop-k
 decreases-loop n o s₀ k₀ s k = 128 - k
 
 pub turns_differ_spec : {M : Type 1} → statement M

@@ -5,10 +5,10 @@ use lib.ListN.{length}
 use Rattle.bits_beside.proofs.values_differ.Statement.{statement}
 use Rattle.bits_beside.proofs.values_differ.Tie as tie
 
-abbrev invariant-loop : tie.invariant-loop
+abbrev invariant-loop : tie.invariant-loop-i
 invariant-loop s at n vs wrong₀ place₀ i₀ wrong place i = (i ≤ length vs) × (wrong ≤ i) × (place ≤ at + i * 24)
 
-abbrev decreases-loop : tie.decreases-loop
+abbrev decreases-loop : tie.decreases-loop-i
 decreases-loop s at n vs wrong₀ place₀ i₀ wrong place i = length vs - i
 
 pub values_differ_spec : {M : Type 1} → statement M

@@ -8,25 +8,25 @@ use Rattle.blocks.proofs.Parts.{keep_turn, kept}
 use Rattle.blocks.proofs.keep.Statement.{statement}
 use Rattle.blocks.proofs.keep.Tie as tie
 
-abbrev invariant-loop : tie.invariant-loop
+abbrev invariant-loop : tie.invariant-loop-j
 invariant-loop held₀ j₀ held j =
     (j ≤ 256) × (length held ≡ 512) × (drop 256 held ≡ drop 256 held₀) × (take j held ≡ take j (drop 256 held₀))
 
-abbrev decreases-loop : tie.decreases-loop
+abbrev decreases-loop : tie.decreases-loop-j
 decreases-loop held₀ j₀ held j = 256 - j
 
-loop-again : tie.Need-loop-preserved invariant-loop decreases-loop
+loop-again : tie.Need-loop-j-preserved invariant-loop decreases-loop
 loop-again c =
-    let l = c.before.before.loop in
-    let a = c.before.before.before.args in
+    let l = c.loop-j in
+    let a = c.args in
     let t = keep_turn l.held a.held.now l.j (omega arith) l.invariant.1 (omega arith) l.invariant.2 l.invariant.3 in
     (omega arith, simp length-set l.invariant.1, t.0, t.1)
 
 returns : tie.Need-returns invariant-loop decreases-loop
 returns c =
-    let l = c.before.loop in
-    let a = c.before.before.args in
-    kept l.held a.held.now l.j (omega arith) c.before.before.requires l.invariant.2 l.invariant.3
+    let l = c.loop-j in
+    let a = c.args in
+    kept l.held a.held.now l.j (omega arith) c.requires l.invariant.2 l.invariant.3
 
 pub keep_spec : {M : Type 1} → statement M
 keep_spec =

@@ -8,13 +8,13 @@ use borrow.Author.Rules.{rules}
 use Rattle.blocks.proofs.put_held.Statement.{statement}
 use Rattle.blocks.proofs.put_held.Tie as tie
 
-slice-aggregate-pack : tie.Need-slice-aggregate-pack
-slice-aggregate-pack c = let a = c.before.before.before.args in sym (length-take-le a.c a.held.now (omega arith))
+slice-aggregate-pack : tie.Need-slice_bounds-pack-end
+slice-aggregate-pack c = let a = c.args in sym (length-take-le a.c a.held.now (omega arith))
 
 returns : tie.Need-returns
 returns c =
-    let a = c.before.before.before.before.before.before.before.args in
-    let k = c.before.before.pack in (
+    let a = c.args in
+    let k = c.pack in (
       part-fits a.bits a.c a.held.now a.place a.out.now _ k.ensures.0,
       part-packed a.bits a.c
           a.held.now a.place a.out.now _ k.ensures.1,

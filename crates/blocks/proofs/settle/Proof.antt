@@ -6,24 +6,20 @@ use Rattle.blocks.proofs.Settled.{settle_few, settle_packed, settle_kept}
 use Rattle.blocks.proofs.settle.Statement.{statement}
 use Rattle.blocks.proofs.settle.Tie as tie
 
-returns : tie.Need-returns
-returns c = let a = c.before.before.before.args in settle_few a.bits a.c a.held.now a.place a.out.now (omega arith)
+returns : tie.Need-returns-then-c-lt-BLOCK
+returns c = let a = c.args in settle_few a.bits a.c a.held.now a.place a.out.now (omega arith)
 
-returns-2 : tie.Need-returns-2
+returns-2 : tie.Need-returns-then-put_held
 returns-2 c =
-    let k = c.before.before in
-    let t = k.before.before in
-    let q = t.before.before.before in
-    let a = q.before.before.before.before.before.before.args in
-    settle_packed a.bits a.c a.held.now a.place a.out.now (omega arith) _ q.put-held.ensures.0
-    t.if2.true _ _ k.keep.ensures q.put-held.ensures.1
+    let a = c.args in
+    settle_packed a.bits a.c a.held.now a.place a.out.now (omega arith) _ c.put_held.ensures.0
+    c.if-put_held.true _ _ c.keep.ensures c.put_held.ensures.1
 
-returns-3 : tie.Need-returns-3
+returns-3 : tie.Need-returns
 returns-3 c =
-    let q = c.before.before.before in
-    let a = q.before.before.before.before.before.before.args in
-    settle_kept a.bits a.c a.held.now a.place a.out.now (omega arith) _ q.put-held.ensures.0
-    c.if2.false _ q.put-held.ensures.1
+    let a = c.args in
+    settle_kept a.bits a.c a.held.now a.place a.out.now (omega arith) _ c.put_held.ensures.0
+    c.if-put_held.false _ c.put_held.ensures.1
 
 pub settle_spec : {M : Type 1} → statement M
 settle_spec =

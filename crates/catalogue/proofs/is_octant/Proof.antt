@@ -33,14 +33,14 @@ returns : tie.Need-returns-then-not-differs invariant-loop decreases-loop
 returns c =
     let l = c.loop-i in
     let r = c.row-e.ensures in
-    sym (l.invariant.1 ∙ found _ _ _ _ r (ap not (sym c.differs.ensures) ∙ c.if-not-differs.true))
+    sym (l.invariant.1 ∙ found _ _ _ _ r (ap not (sym c.differs.ensures ∙ c.if-not-differs.true)))
 
 loop-again : tie.Need-loop-i-preserved invariant-loop decreases-loop
 unfolding rectangles octants catalogue
 loop-again c =
     let l = c.loop-i in
     let r = c.row-e.ensures in
-    (omega arith, l.invariant.1 ∙ passed _ _ _ _ r (ap not (sym c.differs.ensures) ∙ c.if-not-differs.false))
+    (omega arith, l.invariant.1 ∙ passed _ _ _ _ r (ap not (sym c.differs.ensures ∙ c.if-not-differs.false)))
 
 returns-2 : tie.Need-returns invariant-loop decreases-loop
 unfolding rectangles octants catalogue like_one

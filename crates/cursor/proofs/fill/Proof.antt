@@ -5,32 +5,23 @@ use Rattle.cursor.proofs.Answers as A
 use Rattle.cursor.proofs.fill.Statement.{statement}
 use Rattle.cursor.proofs.fill.Tie as tie
 
-returns : tie.Need-returns
+returns : tie.Need-returns-then-h-ne0
 returns c =
-    let asked = c.before.before.before in
-    let a = asked.before.before.before.before.args in
-    A.own_unfilled _ _ a.index.now _ asked.header.ensures c.before.if1.true _ c.unfilled.ensures
+    let a = c.args in
+    A.own_unfilled _ _ a.index.now _ c.header-h.ensures c.if-h-ne0.true _ c.unfilled.ensures
 
-returns-2 : tie.Need-returns-2
+returns-2 : tie.Need-returns-then-index-groups
 returns-2 c =
-    let short = c.before.before in
-    let groups = short.before in
-    let other = groups.before in
-    let asked = other.before.before in
-    let a = asked.before.before.before.before.args in
-    A.too_short _ _ a.index.now _ asked.header.ensures other.if1.false _ groups.«groups-for».ensures
-    short.if2.true _ c.before.refusal.ensures _ c.unfilled2.ensures
+    let a = c.args in
+    A.too_short _ _ a.index.now _ c.header-h.ensures c.if-h-ne0.false _ c.groups_for-groups.ensures
+    c.if-index-groups.true _ c.refusal.ensures _ c.unfilled-then-index-groups.ensures
 
-fill-by-requires : tie.Need-fill-by-requires
+fill-by-requires : tie.Need-fill_by-requires
 fill-by-requires c κs =
-    let fits = c.before.before in
-    let groups = fits.before in
-    let other = groups.before in
-    let asked = other.before.before in
-    let a = asked.before.before.before.before.args in (
-      omega (arith, A.early _ _ _ asked.header.ensures other.if1.false),
-      fits.if2.false,
-      A.few _ _ a.index.now _ asked.header.ensures other.if1.false _ groups.«groups-for».ensures,
+    let a = c.args in (
+      omega (arith, A.early _ _ _ c.header-h.ensures c.if-h-ne0.false),
+      c.if-index-groups.false,
+      A.few _ _ a.index.now _ c.header-h.ensures c.if-h-ne0.false _ c.groups_for-groups.ensures,
     )
 
 cast-t17 : tie.Need-overflow-cast-t17
@@ -44,16 +35,11 @@ cast-t17 c =
       A.few _ _ a.index.now _ asked.header.ensures other.if1.false _ groups.«groups-for».ensures,
     )
 
-returns-3 : tie.Need-returns-3
+returns-3 : tie.Need-returns
 returns-3 c =
-    let put = c.before.before.before in
-    let fits = put.before.before.before in
-    let groups = fits.before in
-    let other = groups.before in
-    let asked = other.before.before in
-    let a = asked.before.before.before.before.args in
-    A.all-filled _ _ a.index.now _ asked.header.ensures other.if1.false _ groups.«groups-for».ensures
-    fits.if2.false _ c.refusal2.ensures _ put.«fill-by».ensures
+    let a = c.args in
+    A.all-filled _ _ a.index.now _ c.header-h.ensures c.if-h-ne0.false _ c.groups_for-groups.ensures
+    c.if-index-groups.false _ c.refusal-2.ensures _ c.fill_by.ensures
 
 pub fill_spec : {M : Type 1} → statement M
 fill_spec =

@@ -9,28 +9,24 @@ use Rattle.cursor.proofs.Groups.{even_entries}
 use Rattle.cursor.proofs.fill_by.Statement.{statement}
 use Rattle.cursor.proofs.fill_by.Tie as tie
 
-returns : tie.Need-returns
+returns : tie.Need-returns-in-Without
 unfolding held
 returns c =
-    let put = c.before.before in
-    let told = put.before.before in
-    let a = told.before.before.before.before.before.args in
-    rw told.«enum_told».given.1
-    (put.«fill-even».ensures
+    let a = c.args in
+    rw c.in-Without.is
+    (c.fill_even.ensures
     ∙ ap (λ (xs : List ℕ). xs ++ drop a.groups a.index.now)
     (even_entries a.s.now a.store.now a.p a.groups))
 
-returns-2 : tie.Need-returns-2
+returns-2 : tie.Need-returns-in-Carried
 unfolding held
 returns-2 c =
-    let put = c.before.before in
-    rw put.before.before.«enum-told2».given.1 put.«fill-counted».ensures
+    rw c.in-Carried.is c.fill_counted.ensures
 
-returns-3 : tie.Need-returns-3
+returns-3 : tie.Need-returns-in-Stored
 unfolding held
 returns-3 c =
-    let put = c.before.before in
-    rw put.before.before.«enum-told3».given.1 put.«fill-counted2».ensures
+    rw c.in-Stored.is c.fill_counted-in-Stored.ensures
 
 pub fill_by_spec : {M : Type 1} → statement M
 fill_by_spec =

@@ -10,22 +10,22 @@ use Rattle.cursor.proofs.Groups.{entry-put, entries_put}
 use Rattle.cursor.proofs.fill_even.Statement.{statement}
 use Rattle.cursor.proofs.fill_even.Tie as tie
 
-abbrev invariant-loop : tie.invariant-loop
+abbrev invariant-loop : tie.invariant-loop-g
 invariant-loop index₀ groups before₀ g₀ index before g =
     (g ≤ groups) × (length index ≡ length index₀) × (before ≡ g * 256)
     × (index ≡ tab (λ k. k * 256) g ++ drop g index₀)
 
-abbrev decreases-loop : tie.decreases-loop
+abbrev decreases-loop : tie.decreases-loop-g
 decreases-loop index₀ groups before₀ g₀ index before g = groups - g
 
-loop-holds : tie.Need-loop-init invariant-loop decreases-loop
+loop-holds : tie.Need-loop-g-init invariant-loop decreases-loop
 unfolding tab
 loop-holds c = (omega arith, refl, omega arith, refl)
 
-loop-again : tie.Need-loop-preserved invariant-loop decreases-loop
+loop-again : tie.Need-loop-g-preserved invariant-loop decreases-loop
 loop-again c =
-    let l = c.before.loop in
-    let a = c.before.before.args in (
+    let l = c.loop-g in
+    let a = c.args in (
       omega arith,
       simp length-set l.invariant.1,
       omega arith,
@@ -34,8 +34,8 @@ loop-again c =
 
 returns : tie.Need-returns invariant-loop decreases-loop
 returns c =
-    let l = c.before.loop in
-    let a = c.before.before.args in
+    let l = c.loop-g in
+    let a = c.args in
     entries_put (λ k. k * 256) a.index.now l.index l.g a.groups (omega arith) l.invariant.3
 
 pub fill_even_spec : {M : Type 1} → statement M

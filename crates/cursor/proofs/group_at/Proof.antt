@@ -6,10 +6,9 @@ use Rattle.cursor.proofs.group_at.Tie as tie
 
 returns : tie.Need-returns
 returns c =
-    let two = c.before in
-    let one = two.before in (
-      all_from _ _ _ _ _ _ one.«group-ones».ensures one.before.«group-size».ensures,
-      before-from _ _ _ _ two.«ones-few».ensures,
+    (
+      all_from _ _ _ _ _ _ c.group_ones.ensures c.group_size.ensures,
+      before-from _ _ _ _ c.ones_few.ensures,
       c.bit.ensures,
     )
 

@@ -6,23 +6,23 @@ use borrow.Author.Rules.{rules}
 use Rattle.cursor.proofs.group_by.Statement.{statement}
 use Rattle.cursor.proofs.group_by.Tie as tie
 
-returns : tie.Need-returns
+returns : tie.Need-returns-in-Without
 unfolding held
 returns c =
-    let a = c.before.before.before.before.before.args in
-    rw c.before.«enum_told».given.1 (
-      all_ones a.s.now a.store.now a.p a.n a.i _ c.«group-size».ensures,
+    let a = c.args in
+    rw c.in-Without.is (
+      all_ones a.s.now a.store.now a.p a.n a.i _ c.group_size.ensures,
       before-ones a.s.now a.store.now a.p a.n a.i,
       refl,
     )
 
-returns-2 : tie.Need-returns-2
+returns-2 : tie.Need-returns-in-Carried
 unfolding held
-returns-2 c = rw c.before.«enum-told2».given.1 c.«group_at».ensures
+returns-2 c = rw c.in-Carried.is c.group_at.ensures
 
-returns-3 : tie.Need-returns-3
+returns-3 : tie.Need-returns-in-Stored
 unfolding held
-returns-3 c = rw c.before.«enum-told3».given.1 c.«group-at2».ensures
+returns-3 c = rw c.in-Stored.is c.group_at-in-Stored.ensures
 
 pub group_by_spec : {M : Type 1} → statement M
 group_by_spec =

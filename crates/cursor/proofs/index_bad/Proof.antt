@@ -6,8 +6,7 @@ use Rattle.cursor.proofs.index_bad.Tie as tie
 
 returns : tie.Need-returns
 returns c =
-    let k = c.before in
-    faults_are _ _ _ _ _ _ _ _ k.«groups-for».ensures k.before.entry.ensures c.«next-entry».ensures
+    faults_are _ _ _ _ _ _ _ _ c.groups_for.ensures c.entry.ensures c.next_entry.ensures
 
 pub index_bad_spec : {M : Type 1} → statement M
 index_bad_spec =

@@ -10,49 +10,36 @@ use Rattle.cursor.proofs.Looks.{looked-bad, looked-value, looked-absent}
 use Rattle.cursor.proofs.look.Statement.{statement}
 use Rattle.cursor.proofs.look.Tie as tie
 
-returns : tie.Need-returns
+returns : tie.Need-returns-then-index_bad
 returns c =
-    let judged = c.before.before in
-    looked-bad _ _ _ _ _ _ _ _ _ judged.before.«group-by».ensures.0 _ judged.«index-bad».ensures
-    c.before.if1.true _ c.refusal.ensures
+    looked-bad _ _ _ _ _ _ _ _ _ c.group_by-group.ensures.0 _ c.index_bad.ensures
+    c.if-index_bad.true _ c.refusal.ensures
 
-add-k : tie.Need-overflow-add-k
+add-k : tie.Need-overflow_add-k
 add-k c =
-    let entry = c.before in
-    let passed = entry.before.before.before in
-    let judged = passed.before in
-    let group = judged.before in
-    let start = group.before.before.before.before in
-    let a = start.args in
-    let most : a.m < 2 ^ 32 = omega (arith, start.ranges.m) in
+    let a = c.args in
+    let most : a.m < 2 ^ 32 = omega (arith, c.ranges.m) in
     record {
       fits = lt_of_le_of_lt
-          (number-few _ a.index.now a.n a.m a.i _ _ _ start.requires.0 group.«group-by».ensures.0
-          (sym judged.«index-bad».ensures ∙ passed.if1.false) entry.entry.ensures
-          group.«group-by».ensures.1)
+          (number-few _ a.index.now a.n a.m a.i _ _ _ c.requires.0 c.group_by-group.ensures.0
+          (sym c.index_bad.ensures ∙ c.if-index_bad.false) c.entry.ensures
+          c.group_by-group.ensures.1)
           most;
     }
 
-returns-2 : tie.Need-returns-2
+returns-2 : tie.Need-returns-then-group-eq1
 unfolding taken_at
 returns-2 c =
-    let place = c.before in
-    let entry = place.before.before in
-    let there = entry.before in
-    let passed = there.before.before in
-    let judged = passed.before in
-    let group = judged.before.«group-by» in
-    looked-value _ _ _ _ _ _ _ _ _ group.ensures.0 _ judged.«index-bad».ensures passed.if1.false _
-    group.ensures.2 there.if2.true _ _ _ _ entry.entry.ensures group.ensures.1
-    place.«value-place».ensures (ap (λ t. t.value) c.take.ensures)
+    let group = c.group_by-group in
+    looked-value _ _ _ _ _ _ _ _ _ group.ensures.0 _ c.index_bad.ensures c.if-index_bad.false _
+    group.ensures.2 c.if-group-eq1.true _ _ _ _ c.entry.ensures group.ensures.1
+    c.value_place-at.ensures (ap (λ t. t.value) c.take.ensures)
 
-returns-3 : tie.Need-returns-3
+returns-3 : tie.Need-returns
 returns-3 c =
-    let passed = c.before.before in
-    let judged = passed.before in
-    let group = judged.before.«group-by» in
-    looked-absent _ _ _ _ _ _ _ _ _ group.ensures.0 _ judged.«index-bad».ensures passed.if1.false _
-    group.ensures.2 c.if2.false
+    let group = c.group_by-group in
+    looked-absent _ _ _ _ _ _ _ _ _ group.ensures.0 _ c.index_bad.ensures c.if-index_bad.false _
+    group.ensures.2 c.if-group-eq1.false
 
 pub look_spec : {M : Type 1} → statement M
 look_spec =

@@ -4,13 +4,12 @@ use borrow.Author.Rules.{rules}
 use Rattle.cursor.proofs.next_entry.Statement.{statement}
 use Rattle.cursor.proofs.next_entry.Tie as tie
 
-returns : tie.Need-returns
+returns : tie.Need-returns-then-next-groups_for
 returns c =
-    let k = c.before.before in
-    next-inside _ _ _ _ _ k.«groups-for».ensures c.before.if1.true _ c.entry.ensures
+    next-inside _ _ _ _ _ c.groups_for.ensures c.if-next-groups_for.true _ c.entry.ensures
 
-returns-2 : tie.Need-returns-2
-returns-2 c = next_last _ _ _ _ _ c.before.«groups-for».ensures c.if1.false
+returns-2 : tie.Need-returns
+returns-2 c = next_last _ _ _ _ _ c.groups_for.ensures c.if-next-groups_for.false
 
 pub next_entry_spec : {M : Type 1} → statement M
 next_entry_spec =

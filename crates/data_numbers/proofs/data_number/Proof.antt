@@ -4,23 +4,23 @@ use borrow.Author.Rules.{rules}
 use Rattle.data_numbers.proofs.data_number.Statement.{statement}
 use Rattle.data_numbers.proofs.data_number.Tie as tie
 
-returns : tie.Need-returns
-returns c = L.refused _ _ _ c.before.before.header.ensures _ c.if1.true
+returns : tie.Need-returns-then-h-ne0
+returns c = L.refused _ _ _ c.header-h.ensures _ c.if-h-ne0.true
 
-returns-2 : tie.Need-returns-2
+returns-2 : tie.Need-returns-in-Without
 returns-2 c =
-    L.none _ _ _ c.before.before.before.before.before.header.ensures _ c.before.before.before.if1.false _
-    c.before.enum_told.given.1 c.itself.ensures
+    L.none _ _ _ c.header-h.ensures _ c.if-h-ne0.false _
+    c.in-Without.is c.itself.ensures
 
-returns-3 : tie.Need-returns-3
+returns-3 : tie.Need-returns-in-Carried
 returns-3 c =
-    L.carried _ _ _ c.before.before.before.before.before.before.header.ensures _
-    c.before.before.before.before.if1.false _ c.before.before.enum-told2.given.1 c.counted.ensures
+    L.carried _ _ _ c.header-h.ensures _
+    c.if-h-ne0.false _ c.in-Carried.is c.counted.ensures
 
-returns-4 : tie.Need-returns-4
+returns-4 : tie.Need-returns-in-Stored
 returns-4 c =
-    L.stored _ _ _ c.before.before.before.before.before.header.ensures _ c.before.before.before.if1.false
-    _ _ c.before.enum-told3.given.1 c.counted2.ensures
+    L.stored _ _ _ c.header-h.ensures _ c.if-h-ne0.false
+    _ _ c.in-Stored.is c.counted-in-Stored.ensures
 
 pub data_number_spec : {M : Type 1} → statement M
 data_number_spec =

@@ -4,14 +4,14 @@ use borrow.Author.Rules.{rules}
 use Rattle.data_numbers.proofs.data_of.Statement.{statement}
 use Rattle.data_numbers.proofs.data_of.Tie as tie
 
-returns : tie.Need-returns
-returns c = rw c.before.enum_told.given.1 (L.by-none _ _ _ _ c.itself.ensures)
+returns : tie.Need-returns-in-Without
+returns c = rw c.in-Without.is (L.by-none _ _ _ _ c.itself.ensures)
 
-returns-2 : tie.Need-returns-2
-returns-2 c = rw c.before.enum-told2.given.1 (L.by-carried _ _ _ _ c.counted.ensures)
+returns-2 : tie.Need-returns-in-Carried
+returns-2 c = rw c.in-Carried.is (L.by-carried _ _ _ _ c.counted.ensures)
 
-returns-3 : tie.Need-returns-3
-returns-3 c = rw c.before.enum-told3.given.1 (L.by-stored _ _ _ _ _ c.counted2.ensures)
+returns-3 : tie.Need-returns-in-Stored
+returns-3 c = rw c.in-Stored.is (L.by-stored _ _ _ _ _ c.counted-in-Stored.ensures)
 
 pub data_of_spec : {M : Type 1} → statement M
 data_of_spec =

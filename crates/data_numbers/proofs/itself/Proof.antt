@@ -6,11 +6,11 @@ use Rattle.data_numbers.proofs.Laws as L
 use Rattle.data_numbers.proofs.itself.Statement.{statement}
 use Rattle.data_numbers.proofs.itself.Tie as tie
 
-returns : tie.Need-returns
-returns c = L.here _ _ _ _ c.if1.true refl (count_ones always 0 _ (λ j l. refl))
+returns : tie.Need-returns-then-i-n
+returns c = L.here _ _ _ _ c.if-i-n.true refl (count_ones always 0 _ (λ j l. refl))
 
-returns-2 : tie.Need-returns-2
-returns-2 c = L.out _ _ _ c.if1.false
+returns-2 : tie.Need-returns
+returns-2 c = L.out _ _ _ c.if-i-n.false
 
 pub itself_spec : {M : Type 1} → statement M
 itself_spec = tie.close (tie.spec returns returns-2)

@@ -5,23 +5,22 @@ use borrow.Author.Rules.{rules}
 use Rattle.display.proofs.display.Statement.{statement}
 use Rattle.display.proofs.display.Tie as tie
 
-returns : tie.Need-returns
-returns c = L.early _ _ _ c.before.before.before.header.ensures c.before.if1.true _ c.refused.ensures
+returns : tie.Need-returns-then-h-ne0
+returns c = L.early _ _ _ c.header-h.ensures c.if-h-ne0.true _ c.refused.ensures
 
-returns-2 : tie.Need-returns-2
+returns-2 : tie.Need-returns-then-beyond
 returns-2 c =
-    let t = c.before.before in
-    L.late _ _ _ t.before.before.before.before.header.ensures t.before.before.if1.false _
-    t.before.beyond.ensures t.if2.true _ (c.refused2.ensures ∙ ap L.blank c.before.refusal.ensures)
+    L.late _ _ _ c.header-h.ensures c.if-h-ne0.false _
+    c.beyond.ensures c.if-beyond.true _ (c.refused-then-beyond.ensures ∙ ap L.blank c.refusal.ensures)
 
 shown-requires : tie.Need-shown-requires
 shown-requires c κs =
-    L.in_range c.before.before.before.before.header.result.scale _ c.before.beyond.ensures c.if2.false
+    L.in_range c.header-h.result.scale _ c.beyond.ensures c.if-beyond.false
 
-returns-3 : tie.Need-returns-3
+returns-3 : tie.Need-returns
 returns-3 c =
-    L.found _ _ _ c.before.before.before.before.before.header.ensures c.before.before.before.if1.false _
-    c.before.before.beyond.ensures c.before.if2.false _ c.shown.ensures
+    L.found _ _ _ c.header-h.ensures c.if-h-ne0.false _
+    c.beyond.ensures c.if-beyond.false _ c.shown.ensures
 
 pub display_spec : {M : Type 1} → statement M
 display_spec =

@@ -9,34 +9,34 @@ use Rattle.laws.proofs.Lead.{Lead, lead, some}
 use Rattle.display.proofs.ref_bits.Statement.{statement}
 use Rattle.display.proofs.ref_bits.Tie as tie
 
-here : (c : tie.Else1) → Lead c.before.args.b (count_leading_zeros 32 c.before.args.b)
-here c = lead c.before.args.b c.if1.false (omega arith)
+here : (c : tie.Else-b-eq0) → Lead c.args.b (count_leading_zeros 32 c.args.b)
+here c = lead c.args.b c.if-b-eq0.false (omega arith)
 
-returns : tie.Need-returns
+returns : tie.Need-returns-then-b-eq0
 unfolding the_ref_bits
-returns c = ap (λ (x : ℕ). the_ref_bits c.before.args.s c.before.args.a x) (sym c.if1.true)
+returns c = ap (λ (x : ℕ). the_ref_bits c.args.s c.args.a x) (sym c.if-b-eq0.true)
 
-cast-z : tie.Need-overflow-cast-z
+cast-z : tie.Need-overflow_cast-z
 cast-z c = omega (arith, here c)
 
-add-t : tie.Need-overflow-add-t
+add-t : tie.Need-overflow_add-t
 add-t c = omega (arith, here c)
 
-shl-t : tie.Need-overflow-shl-t
+shl-t : tie.Need-overflow_shl-t
 shl-t c = omega (arith, here c)
 
-sub-result : tie.Need-overflow-sub-result
+sub-result : tie.Need-overflow_sub-result
 sub-result c = omega (arith, here c)
 
-add-result-2 : tie.Need-overflow-add-result-2
+add-result-2 : tie.Need-overflow_add-result-2
 add-result-2 c = rw (here c).exact (omega (arith, here c))
 
-add-result-3 : tie.Need-overflow-add-result-3
+add-result-3 : tie.Need-overflow_add-result-3
 add-result-3 c = rw (here c).exact (omega (arith, here c))
 
-returns-2 : tie.Need-returns-2
+returns-2 : tie.Need-returns
 returns-2 c =
-    rw (here c).exact (sym (some c.before.args.s c.before.args.a c.before.args.b c.if1.false))
+    rw (here c).exact (sym (some c.args.s c.args.a c.args.b c.if-b-eq0.false))
 
 pub ref_bits_spec : {M : Type 1} → statement M
 ref_bits_spec =

@@ -13,15 +13,14 @@ float-from-bits-t12 c =
     no_nan c.before.before.ref-bits.result
     (rw c.before.before.ref-bits.ensures (ref_small _ _ _ (omega arith) (omega arith) (omega arith)))
 
-float-from-bits-t13 : tie.Need-float-from-bits-t13
+float-from-bits-t13 : tie.Need-float_from_bits-result
 float-from-bits-t13 c =
-    let b = c.before.before.before in
-    let s = shifted _ b.requires.0 b.requires.1 in
-    no_nan c.before.step-bits.result (rw (c.before.step-bits.ensures ∙ s.bits) (omega (arith, s)))
+    let s = shifted _ c.requires.0 c.requires.1 in
+    no_nan c.step_bits-step.result (rw (c.step_bits-step.ensures ∙ s.bits) (omega (arith, s)))
 
 returns : tie.Need-returns
 unfolding shown_reference shown_step
-returns c = simp (c.before.before.ref-bits.ensures, c.before.step-bits.ensures, c.refusal.ensures)
+returns c = simp (c.ref_bits-reference.ensures, c.step_bits-step.ensures, c.refusal.ensures)
 
 pub shown_spec : {M : Type 1} → statement M
 shown_spec =

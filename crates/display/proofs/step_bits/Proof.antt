@@ -9,19 +9,19 @@ use Rattle.display.proofs.Shift.{Shifted, shifted, word}
 use Rattle.display.proofs.step_bits.Statement.{statement}
 use Rattle.display.proofs.step_bits.Tie as tie
 
-fits : (c : tie.After-struct-told) → SFits w32 c.before.before.args.e.value
+fits : (c : tie.After-struct_told-1) → SFits w32 c.args.e.value
 fits c = search rules
 
-here : (c : tie.After-struct-told) → Shifted c.before.before.args.e.value
-here c = shifted c.before.before.args.e.value c.before.before.requires.0 c.before.before.requires.1
+here : (c : tie.After-struct_told-1) → Shifted c.args.e.value
+here c = shifted c.args.e.value c.requires.0 c.requires.1
 
-add-result : tie.Need-overflow-add-result
+add-result : tie.Need-overflow_add-result
 add-result c = simp (to_z-of_z (fits c), (here c).is) (record { sfits = omega (arith, here c) })
 
-cast-result : tie.Need-overflow-cast-result
+cast-result : tie.Need-overflow_cast-result
 cast-result c = simp (word _ (here c) (fits c)) (tt, omega (arith, here c))
 
-mul-result : tie.Need-overflow-mul-result
+mul-result : tie.Need-overflow_mul-result
 mul-result c = simp (word _ (here c) (fits c)) (omega (arith, here c))
 
 returns : tie.Need-returns

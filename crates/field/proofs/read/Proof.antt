@@ -6,48 +6,33 @@ use Rattle.field.proofs.Answers as A
 use Rattle.field.proofs.read.Statement.{statement}
 use Rattle.field.proofs.read.Tie as tie
 
-returns : tie.Need-returns
+returns : tie.Need-returns-then-h-ne0
 returns c =
-    let asked = c.before.before in
-    let a = asked.before.before.before.before.before.args in
-    A.refused _ _ a.values.now a.marks.now _ asked.header.ensures c.if1.true
+    let a = c.args in
+    A.refused _ _ a.values.now a.marks.now _ c.header-h.ensures c.if-h-ne0.true
 
-returns-2 : tie.Need-returns-2
+returns-2 : tie.Need-returns-then-values-n
 returns-2 c =
-    let short = c.before.before in
-    let long = short.before in
-    let other = long.before in
-    let asked = other.before.before in
-    let a = asked.before.before.before.before.before.args in
-    A.too_short _ _ a.values.now a.marks.now _ asked.header.ensures other.if1.false _
-    long.long.ensures short.if2.true _ c.before.refusal.ensures _ c.refused.ensures
+    let a = c.args in
+    A.too_short _ _ a.values.now a.marks.now _ c.header-h.ensures c.if-h-ne0.false _
+    c.long.ensures c.if-values-n.true _ c.refusal.ensures _ c.refused.ensures
 
-fill-lists-requires : tie.Need-fill-lists-requires
+fill-lists-requires : tie.Need-fill_lists-requires
 fill-lists-requires c κs =
-    let fits = c.before.before.before.before in
-    let long = fits.before in
-    let other = long.before in
-    let asked = other.before.before in
-    let a = asked.before.before.before.before.before.args in
-    let e = asked.header.ensures in
-    let z = other.if1.false in
-    let r = A.room _ _ a.values.now a.marks.now _ e z _ long.long.ensures fits.if2.false in (
+    let a = c.args in
+    let e = c.header-h.ensures in
+    let z = c.if-h-ne0.false in
+    let r = A.room _ _ a.values.now a.marks.now _ e z _ c.long.ensures c.if-values-n.false in (
       A.narrow _ _ a.values.now a.marks.now _ e z,
       (A.counted _ _ a.values.now a.marks.now _ e z, (A.lies _ _ a.values.now a.marks.now _ e z, r.0)),
     )
 
-returns-3 : tie.Need-returns-3
+returns-3 : tie.Need-returns
 returns-3 c =
-    let filled = c.before.before.before.before in
-    let place = filled.before.before.before in
-    let fits = place.before.before in
-    let long = fits.before in
-    let other = long.before in
-    let asked = other.before.before in
-    let a = asked.before.before.before.before.before.args in
-    A.done _ _ a.values.now a.marks.now _ asked.header.ensures other.if1.false _ long.long.ensures
-    fits.if2.false _ place.data-place.ensures _ _ filled.fill-lists.ensures.0
-    filled.fill-lists.ensures.1
+    let a = c.args in
+    A.done _ _ a.values.now a.marks.now _ c.header-h.ensures c.if-h-ne0.false _ c.long.ensures
+    c.if-values-n.false _ c.data_place-at.ensures _ _ c.fill_lists.ensures.0
+    c.fill_lists.ensures.1
 
 pub read_spec : {M : Type 1} → statement M
 read_spec =

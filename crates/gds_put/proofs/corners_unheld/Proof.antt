@@ -8,10 +8,10 @@ returns : tie.Need-returns
 unfolding any_of or_all
 returns c =
     rw (
-      c.sign-taken4.ensures,
-      c.before.sign-taken3.ensures,
-      c.before.before.sign-taken2.ensures,
-      c.before.before.before.sign-taken.ensures,
+      c.sign_taken-4.ensures,
+      c.sign_taken-3.ensures,
+      c.sign_taken-2.ensures,
+      c.sign_taken.ensures,
     )
 
 pub corners_unheld_spec : {M : Type 1} → statement M

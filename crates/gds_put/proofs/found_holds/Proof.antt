@@ -4,11 +4,11 @@ use borrow.Author.Rules.{rules}
 use Rattle.gds_put.proofs.found_holds.Statement.{statement}
 use Rattle.gds_put.proofs.found_holds.Tie as tie
 
-returns : tie.Need-returns
-returns c = holds-none _ c.enum_told.given.1
+returns : tie.Need-returns-in-Nothing
+returns c = holds-none _ c.in-Nothing.is
 
-returns-2 : tie.Need-returns-2
-returns-2 c = holds-given _ _ c.before.before.grid.given.1 _ c.grid-unheld.ensures
+returns-2 : tie.Need-returns-in-Given
+returns-2 c = holds-given _ _ c.in-Given.is _ c.grid_unheld.ensures
 
 pub found_holds_spec : {M : Type 1} → statement M
 found_holds_spec =

@@ -4,8 +4,8 @@ use borrow.Author.Rules.{rules}
 use Rattle.gds_put.proofs.gds_room.Statement.{statement}
 use Rattle.gds_put.proofs.gds_room.Tie as tie
 
-returns-2 : tie.Need-returns-2
-returns-2 c = room-given _ _ c.before.before.grid.given.1 _ c.kind-room.ensures
+returns-2 : tie.Need-returns-in-Given
+returns-2 c = room-given _ _ c.in-Given.is _ c.kind_room.ensures
 
 pub gds_room_spec : {M : Type 1} → statement M
 gds_room_spec =

@@ -10,11 +10,11 @@ returns : tie.Need-returns
 unfolding any_of or_all cells_unheld cells_by
 returns c =
     rw (
-      c.sign-taken4.ensures,
-      c.before.sign-taken3.ensures,
-      c.before.before.sign-taken2.ensures,
-      c.before.before.before.sign-taken.ensures,
-      c.before.before.before.before.plane-unheld.ensures,
+      c.sign_taken-4.ensures,
+      c.sign_taken-3.ensures,
+      c.sign_taken-2.ensures,
+      c.sign_taken.ensures,
+      c.plane_unheld.ensures,
     )
 
 pub lambert_unheld_spec : {M : Type 1} → statement M

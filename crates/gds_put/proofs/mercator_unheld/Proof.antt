@@ -10,10 +10,10 @@ returns : tie.Need-returns
 unfolding any_of or_all cells_unheld cells_by
 returns c =
     rw (
-      c.too-far2.ensures,
-      c.before.too_far.ensures,
-      c.before.before.sign-taken.ensures,
-      c.before.before.before.corners-unheld.ensures,
+      c.too_far-2.ensures,
+      c.too_far.ensures,
+      c.sign_taken.ensures,
+      c.corners_unheld.ensures,
     )
 
 pub mercator_unheld_spec : {M : Type 1} → statement M

@@ -8,11 +8,11 @@ returns : tie.Need-returns
 unfolding any_of or_all
 returns c =
     rw (
-      c.too-far2.ensures,
-      c.before.too_far.ensures,
-      c.before.before.sign-taken3.ensures,
-      c.before.before.before.sign-taken2.ensures,
-      c.before.before.before.before.sign-taken.ensures,
+      c.too_far-2.ensures,
+      c.too_far.ensures,
+      c.sign_taken-3.ensures,
+      c.sign_taken-2.ensures,
+      c.sign_taken.ensures,
     )
 
 pub plane_unheld_spec : {M : Type 1} → statement M

@@ -8,19 +8,13 @@ use Rattle.gds_put.proofs.put_cone.Tie as tie
 
 returns : tie.Need-returns
 returns c =
-    let d5 = c.before.before in
-    let d4 = d5.before.before.before.before in
-    let d3 = d4.before.before.before.before in
-    let d2 = d3.before.before.before.before in
-    let d1 = d2.before.before.before.before in
-    let b = d1.before.before.before in
-    let a = b.args in
+    let a = c.args in
     let l0 = laid_none a.out.now (a.g + 28) 14 (omega arith) in
-    let l1 = put-signed l0 _ _ _ _ _ d1.put-signed-three.ensures.1 (omega arith) (omega arith) b.requires.1.0 in
-    let l2 = put-signed l1 _ _ _ _ _ d2.put-signed-three2.ensures.1 (omega arith) (omega arith) b.requires.1.1 in
-    let l3 = put-signed l2 _ _ _ _ _ d3.put-signed-three3.ensures.1 (omega arith) (omega arith) b.requires.1.2 in
-    let l4 = put-signed l3 _ _ _ _ _ d4.put-signed-three4.ensures.1 (omega arith) (omega arith) b.requires.1.3 in
-    let l5 = put l4 _ _ _ _ _ d5.put_two.ensures.1 (omega arith) (omega arith) (omega arith) in
+    let l1 = put-signed l0 _ _ _ _ _ c.put_signed_three.ensures.1 (omega arith) (omega arith) c.requires.1.0 in
+    let l2 = put-signed l1 _ _ _ _ _ c.put_signed_three-2.ensures.1 (omega arith) (omega arith) c.requires.1.1 in
+    let l3 = put-signed l2 _ _ _ _ _ c.put_signed_three-3.ensures.1 (omega arith) (omega arith) c.requires.1.2 in
+    let l4 = put-signed l3 _ _ _ _ _ c.put_signed_three-4.ensures.1 (omega arith) (omega arith) c.requires.1.3 in
+    let l5 = put l4 _ _ _ _ _ c.put_two.ensures.1 (omega arith) (omega arith) (omega arith) in
     l5.is
 
 pub put_cone_spec : {M : Type 1} → statement M

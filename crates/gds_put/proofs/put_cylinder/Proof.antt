@@ -8,23 +8,15 @@ use Rattle.gds_put.proofs.put_cylinder.Tie as tie
 
 returns : tie.Need-returns
 returns c =
-    let d7 = c.before.before in
-    let d6 = d7.before.before.before.before in
-    let d5 = d6.before.before.before.before in
-    let d4 = d5.before.before.before.before in
-    let d3 = d4.before.before.before.before in
-    let d2 = d3.before.before.before.before in
-    let d1 = d2.before.before.before.before in
-    let b = d1.before.before.before in
-    let a = b.args in
+    let a = c.args in
     let l0 = laid_none a.out.now (a.g + 17) 17 (omega arith) in
-    let l1 = put-signed l0 _ _ _ _ _ d1.put-signed-three.ensures.1 (omega arith) (omega arith) b.requires.1.0.0 in
-    let l2 = put-signed l1 _ _ _ _ _ d2.put-signed-three2.ensures.1 (omega arith) (omega arith) b.requires.1.0.1 in
-    let l3 = put-signed l2 _ _ _ _ _ d3.put-signed-three3.ensures.1 (omega arith) (omega arith) b.requires.1.0.2 in
-    let l4 = put l3 _ _ _ _ _ d4.put-octet.ensures.1 (omega arith) (omega arith) (omega arith) in
-    let l5 = put l4 _ _ _ _ _ d5.put-octet2.ensures.1 (omega arith) (omega arith) (omega arith) in
-    let l6 = put l5 _ _ _ _ _ d6.put_three.ensures.1 (omega arith) (omega arith) b.requires.1.1.0 in
-    let l7 = put l6 _ _ _ _ _ d7.put-three2.ensures.1 (omega arith) (omega arith) b.requires.1.1.1 in
+    let l1 = put-signed l0 _ _ _ _ _ c.put_signed_three.ensures.1 (omega arith) (omega arith) c.requires.1.0.0 in
+    let l2 = put-signed l1 _ _ _ _ _ c.put_signed_three-2.ensures.1 (omega arith) (omega arith) c.requires.1.0.1 in
+    let l3 = put-signed l2 _ _ _ _ _ c.put_signed_three-3.ensures.1 (omega arith) (omega arith) c.requires.1.0.2 in
+    let l4 = put l3 _ _ _ _ _ c.put_octet.ensures.1 (omega arith) (omega arith) (omega arith) in
+    let l5 = put l4 _ _ _ _ _ c.put_octet-2.ensures.1 (omega arith) (omega arith) (omega arith) in
+    let l6 = put l5 _ _ _ _ _ c.put_three.ensures.1 (omega arith) (omega arith) c.requires.1.1.0 in
+    let l7 = put l6 _ _ _ _ _ c.put_three-2.ensures.1 (omega arith) (omega arith) c.requires.1.1.1 in
     l7.is
 
 pub put_cylinder_spec : {M : Type 1} → statement M

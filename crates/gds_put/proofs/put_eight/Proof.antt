@@ -11,13 +11,10 @@ use Rattle.gds_put.proofs.put_eight.Tie as tie
 
 returns : tie.Need-returns
 returns c =
-    let d2 = c.before.before in
-    let d1 = d2.before.before.before.before in
-    let b = d1.before.before.before in
-    let a = b.args in
+    let a = c.args in
     let l0 = laid_none a.out.now (a.g + 34) 8 (omega arith) in
-    let l1 = put l0 _ _ _ _ _ d1.put_four.ensures.1 (omega arith) (omega arith) (omega arith) in
-    let l2 = put l1 _ _ _ _ _ d2.put-four2.ensures.1 (omega arith) (omega arith) (omega arith) in
+    let l1 = put l0 _ _ _ _ _ c.put_four.ensures.1 (omega arith) (omega arith) (omega arith) in
+    let l2 = put l1 _ _ _ _ _ c.put_four-2.ensures.1 (omega arith) (omega arith) (omega arith) in
     l2.is ∙ ap (placed a.out.now (a.g + 34)) eight
 
 pub put_eight_spec : {M : Type 1} → statement M

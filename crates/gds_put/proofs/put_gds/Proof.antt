@@ -10,42 +10,34 @@ use borrow.Author.Rules.{rules}
 use Rattle.gds_put.proofs.put_gds.Statement.{statement}
 use Rattle.gds_put.proofs.put_gds.Tie as tie
 
-returns : tie.Need-returns
+returns : tie.Need-returns-then-not-found_holds-room
 returns c =
-    let r = c.before in
-    let b = r.before.before.before.before in
-    let d = b.args.out.now in
-    let p = r.before.before.found-holds.ensures in
-    let q = r.room.ensures ∙ ap (λ (n : ℕ). leb (b.args.at + n) (length d)) r.before.gds-room.ensures in
-    unfit d _ _ _ _ p q (not-true _ c.if1.true)
+    let d = c.args.out.now in
+    let p = c.found_holds.ensures in
+    let q = c.room.ensures ∙ ap (λ (n : ℕ). leb (c.args.at + n) (length d)) c.gds_room.ensures in
+    unfit d _ _ _ _ p q (not-true _ c.if-not-found_holds-room.true)
 
-put-kind-requires : tie.Need-put-kind-requires
+put-kind-requires : tie.Need-put_kind-requires
 put-kind-requires c κs =
-    let r = c.before.before.before.before.before in
-    let b = r.before.before.before.before in
-    let d = b.args.out.now in
-    let p = r.before.before.found-holds.ensures in
-    let q = r.room.ensures ∙ ap (λ (n : ℕ). leb (b.args.at + n) (length d)) r.before.gds-room.ensures in
-    may d _ _ _ _ p q (not-false _ c.before.before.before.before.if1.false) _ c.before.before.grid.given.1
+    let d = c.args.out.now in
+    let p = c.found_holds.ensures in
+    let q = c.room.ensures ∙ ap (λ (n : ℕ). leb (c.args.at + n) (length d)) c.gds_room.ensures in
+    may d _ _ _ _ p q (not-false _ c.if-not-found_holds-room.false) _ c.in-Given.is
 
-returns-2 : tie.Need-returns-2
+returns-2 : tie.Need-returns-in-Nothing
 returns-2 c =
-    let r = c.before.before.before in
-    let b = r.before.before.before.before in
-    let d = b.args.out.now in
-    let p = r.before.before.found-holds.ensures in
-    let q = r.room.ensures ∙ ap (λ (n : ℕ). leb (b.args.at + n) (length d)) r.before.gds-room.ensures in
-    fit d _ _ _ _ p q (not-false _ c.before.before.if1.false) _ (nothing_placed _ d _ c.enum_told.given.1)
+    let d = c.args.out.now in
+    let p = c.found_holds.ensures in
+    let q = c.room.ensures ∙ ap (λ (n : ℕ). leb (c.args.at + n) (length d)) c.gds_room.ensures in
+    fit d _ _ _ _ p q (not-false _ c.if-not-found_holds-room.false) _ (nothing_placed _ d _ c.in-Nothing.is)
 
-returns-3 : tie.Need-returns-3
+returns-3 : tie.Need-returns-in-Given
 returns-3 c =
-    let r = c.before.before.before.before.before.before.before.before in
-    let b = r.before.before.before.before in
-    let d = b.args.out.now in
-    let p = r.before.before.found-holds.ensures in
-    let q = r.room.ensures ∙ ap (λ (n : ℕ). leb (b.args.at + n) (length d)) r.before.gds-room.ensures in
-    fit d _ _ _ _ p q (not-false _ c.before.before.before.before.before.before.before.if1.false) _
-    (given-placed _ _ d _ _ c.before.before.before.before.before.grid.given.1 c.before.before.put-kind.ensures)
+    let d = c.args.out.now in
+    let p = c.found_holds.ensures in
+    let q = c.room.ensures ∙ ap (λ (n : ℕ). leb (c.args.at + n) (length d)) c.gds_room.ensures in
+    fit d _ _ _ _ p q (not-false _ c.if-not-found_holds-room.false) _
+    (given-placed _ _ d _ _ c.in-Given.is c.put_kind.ensures)
 
 pub put_gds_spec : {M : Type 1} → statement M
 put_gds_spec =

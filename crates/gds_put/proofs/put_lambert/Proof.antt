@@ -12,39 +12,31 @@ use borrow.Author.Rules.{rules}
 use Rattle.gds_put.proofs.put_lambert.Statement.{statement}
 use Rattle.gds_put.proofs.put_lambert.Tie as tie
 
-put-front-requires : tie.Need-put-front-requires
+put-front-requires : tie.Need-put_front-requires
 put-front-requires c κs =
-    let b = c.before.before.before.before.before.before.before in
-    (omega arith, corner_free b.args.grid (Lambert b.args.x) b.requires.1)
+    (omega arith, corner_free c.args.grid (Lambert c.args.x) c.requires.1)
 
-put-plane-requires : tie.Need-put-plane-requires
+put-plane-requires : tie.Need-put_plane-requires
 put-plane-requires c κs =
-    let b = c.before.before.before.before.before.before.before.before.before.before.before in
-    (omega arith, (lambert_free b.args.grid _ b.requires.1).0)
+    (omega arith, (lambert_free c.args.grid _ c.requires.1).0)
 
-put-cone-requires : tie.Need-put-cone-requires
+put-cone-requires : tie.Need-put_cone-requires
 put-cone-requires c κs =
-    let b = c.before.before.before.before.before.before.before.before.before.before.before.before.before.before.before in
-    (omega arith, (lambert_free b.args.grid _ b.requires.1).1)
+    (omega arith, (lambert_free c.args.grid _ c.requires.1).1)
 
 returns : tie.Need-returns
 unfolding cells_fields cells_by
 returns c =
-    let d4 = c.before.before in
-    let d3 = d4.before.before.before.before in
-    let d2 = d3.before.before.before.before in
-    let d1 = d2.before.before.before.before in
-    let b = d1.before.before.before.before in
-    let a = b.args in
+    let a = c.args in
     let g = a.grid in
     let x = a.x in
     let q = x.plane in
     let own = plane_fields q.lov q.dx q.dy q.centre g.scan in
     let begun =
-    section a.out.now a.g g long_length 255 3 own _ _ _ (omega (arith, b.requires.0)) d1.put-top.ensures
-    d2.put_front.ensures d3.put-plane.ensures in
+    section a.out.now a.g g long_length 255 3 own _ _ _ (omega (arith, c.requires.0)) c.put_top.ensures
+    c.put_front.ensures c.put_plane.ensures in
     after a.out.now a.g (a.g + 28) (top_fields long_length 255 3 ++ (front_of g ++ own)) (cone_fields x.latin1 x.latin2 x.pole_la x.pole_lo) _ _ begun
-    (omega arith) (omega (arith, b.requires.0)) d4.put-cone.ensures
+    (omega arith) (omega (arith, c.requires.0)) c.put_cone.ensures
 
 pub put_lambert_spec : {M : Type 1} → statement M
 put_lambert_spec =

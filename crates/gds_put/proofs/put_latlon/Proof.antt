@@ -11,29 +11,23 @@ use borrow.Author.Rules.{rules}
 use Rattle.gds_put.proofs.put_latlon.Statement.{statement}
 use Rattle.gds_put.proofs.put_latlon.Tie as tie
 
-put-front-requires : tie.Need-put-front-requires
+put-front-requires : tie.Need-put_front-requires
 put-front-requires c κs =
-    let b = c.before.before.before.before.before.before in
-    (omega arith, corner_free b.args.grid (LatLon b.args.x) b.requires.1)
+    (omega arith, corner_free c.args.grid (LatLon c.args.x) c.requires.1)
 
-put-edges-requires : tie.Need-put-edges-requires
+put-edges-requires : tie.Need-put_edges-requires
 put-edges-requires c κs =
-    let b = c.before.before.before.before.before.before.before.before.before.before in
-    (omega arith, latlon_free b.args.grid _ b.requires.1)
+    (omega arith, latlon_free c.args.grid _ c.requires.1)
 
 returns : tie.Need-returns
 unfolding cells_fields cells_by
 returns c =
-    let d3 = c.before.before in
-    let d2 = d3.before.before.before.before in
-    let d1 = d2.before.before.before.before in
-    let b = d1.before.before.before in
-    let a = b.args in
+    let a = c.args in
     let g = a.grid in
     let x = a.x in
     let own = edges_fields x.la2 x.lo2 x.di x.dj g.scan in
-    section a.out.now a.g g gds_length 255 0 own _ _ _ (omega (arith, b.requires.0)) d1.put-top.ensures
-    d2.put_front.ensures d3.put-edges.ensures
+    section a.out.now a.g g gds_length 255 0 own _ _ _ (omega (arith, c.requires.0)) c.put_top.ensures
+    c.put_front.ensures c.put_edges.ensures
 
 pub put_latlon_spec : {M : Type 1} → statement M
 put_latlon_spec =

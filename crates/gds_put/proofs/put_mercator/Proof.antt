@@ -13,33 +13,26 @@ use borrow.Author.Rules.{rules}
 use Rattle.gds_put.proofs.put_mercator.Statement.{statement}
 use Rattle.gds_put.proofs.put_mercator.Tie as tie
 
-put-front-requires : tie.Need-put-front-requires
+put-front-requires : tie.Need-put_front-requires
 put-front-requires c κs =
-    let b = c.before.before.before.before.before.before in
-    (omega arith, corner_free b.args.grid (Mercator b.args.x) b.requires.1)
+    (omega arith, corner_free c.args.grid (Mercator c.args.x) c.requires.1)
 
-put-cylinder-requires : tie.Need-put-cylinder-requires
+put-cylinder-requires : tie.Need-put_cylinder-requires
 put-cylinder-requires c κs =
-    let b = c.before.before.before.before.before.before.before.before.before.before in
-    (omega arith, mercator_free b.args.grid _ b.requires.1)
+    (omega arith, mercator_free c.args.grid _ c.requires.1)
 
 returns : tie.Need-returns
 unfolding cells_fields cells_by
 returns c =
-    let d4 = c.before.before in
-    let d3 = d4.before.before.before.before in
-    let d2 = d3.before.before.before.before in
-    let d1 = d2.before.before.before.before in
-    let b = d1.before.before.before in
-    let a = b.args in
+    let a = c.args in
     let g = a.grid in
     let x = a.x in
     let own = cylinder_fields x.la2 x.lo2 x.latin g.scan x.di x.dj in
     let begun =
-    section a.out.now a.g g long_length 255 1 own _ _ _ (omega (arith, b.requires.0)) d1.put-top.ensures
-    d2.put_front.ensures d3.put-cylinder.ensures in
+    section a.out.now a.g g long_length 255 1 own _ _ _ (omega (arith, c.requires.0)) c.put_top.ensures
+    c.put_front.ensures c.put_cylinder.ensures in
     after a.out.now a.g (a.g + 34) (top_fields long_length 255 1 ++ (front_of g ++ own)) (field 8 0 ∷ []) _ _ begun
-    (omega arith) (omega (arith, b.requires.0)) d4.put-eight.ensures
+    (omega arith) (omega (arith, c.requires.0)) c.put_eight.ensures
 
 pub put_mercator_spec : {M : Type 1} → statement M
 put_mercator_spec =

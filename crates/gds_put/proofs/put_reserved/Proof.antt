@@ -8,11 +8,9 @@ use Rattle.gds_put.proofs.put_reserved.Tie as tie
 
 returns : tie.Need-returns
 returns c =
-    let d1 = c.before.before in
-    let b = d1.before.before.before in
-    let a = b.args in
+    let a = c.args in
     let l0 = laid_none a.out.now (a.g + 28) 4 (omega arith) in
-    let l1 = put l0 _ _ _ _ _ d1.put_four.ensures.1 (omega arith) (omega arith) (omega arith) in
+    let l1 = put l0 _ _ _ _ _ c.put_four.ensures.1 (omega arith) (omega arith) (omega arith) in
     l1.is
 
 pub put_reserved_spec : {M : Type 1} → statement M

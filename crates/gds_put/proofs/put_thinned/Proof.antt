@@ -14,34 +14,27 @@ use borrow.Author.Rules.{rules}
 use Rattle.gds_put.proofs.put_thinned.Statement.{statement}
 use Rattle.gds_put.proofs.put_thinned.Tie as tie
 
-put-front-requires : tie.Need-put-front-requires
+put-front-requires : tie.Need-put_front-requires
 put-front-requires c κs =
-    let b = c.before.before.before.before.before.before.before in
-    (omega arith, corner_free b.args.grid (Thinned b.args.o) b.requires.1)
+    (omega arith, corner_free c.args.grid (Thinned c.args.o) c.requires.1)
 
-put-edges-requires : tie.Need-put-edges-requires
+put-edges-requires : tie.Need-put_edges-requires
 put-edges-requires c κs =
-    let b = c.before.before.before.before.before.before.before.before.before.before.before in
-    (omega arith, thinned_free b.args.grid _ b.requires.1)
+    (omega arith, thinned_free c.args.grid _ c.requires.1)
 
 returns : tie.Need-returns
 unfolding cells_fields cells_by
 returns c =
-    let d4 = c.before.before in
-    let d3 = d4.before.before.before.before in
-    let d2 = d3.before.before.before.before in
-    let d1 = d2.before.before.before.before in
-    let b = d1.before.before.before.before in
-    let a = b.args in
+    let a = c.args in
     let g = a.grid in
     let o = a.o in
     let x = o.edges in
     let own = edges_fields x.la2 x.lo2 x.di x.dj g.scan in
     let begun =
-    section a.out.now a.g g thinned_length 33 0 own _ _ _ (omega (arith, b.requires.0)) d1.put-top.ensures
-    d2.put_front.ensures d3.put-edges.ensures in
+    section a.out.now a.g g thinned_length 33 0 own _ _ _ (omega (arith, c.requires.0)) c.put_top.ensures
+    c.put_front.ensures c.put_edges.ensures in
     after a.out.now a.g (a.g + 32) (top_fields thinned_length 33 0 ++ (front_of g ++ own)) (count_fields o.start octant_rows) _ _ begun
-    (omega arith) (omega (arith, b.requires.0, counts-wide o.start octant_rows 0)) d4.put-counts.ensures ∙ ap (placed a.out.now a.g) (thinned_laid g o)
+    (omega arith) (omega (arith, c.requires.0, counts-wide o.start octant_rows 0)) c.put_counts.ensures ∙ ap (placed a.out.now a.g) (thinned_laid g o)
 
 pub put_thinned_spec : {M : Type 1} → statement M
 put_thinned_spec =

@@ -4,11 +4,11 @@ use borrow.Author.Rules.{rules}
 use Rattle.gds_put.proofs.room.Statement.{statement}
 use Rattle.gds_put.proofs.room.Tie as tie
 
-returns : tie.Need-returns
-returns c = room-none _ _ _ c.if1.true
+returns : tie.Need-returns-then-octets-at
+returns c = room-none _ _ _ c.if-octets-at.true
 
-returns-2 : tie.Need-returns-2
-returns-2 c = room-left _ _ _ c.if1.false
+returns-2 : tie.Need-returns
+returns-2 c = room-left _ _ _ c.if-octets-at.false
 
 pub room_spec : {M : Type 1} → statement M
 room_spec =

@@ -10,8 +10,8 @@ returns : tie.Need-returns
 unfolding any_of or_all cells_faults cells_by
 returns c =
     rw (
-      c.circles-bad.ensures,
-      c.before.corners-bad.ensures,
+      c.circles_bad.ensures,
+      c.corners_bad.ensures,
     )
 
 pub gaussian_bad_spec : {M : Type 1} → statement M

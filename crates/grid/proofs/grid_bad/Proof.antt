@@ -5,23 +5,23 @@ use borrow.Author.Rules.{rules}
 use Rattle.grid.proofs.grid_bad.Statement.{statement}
 use Rattle.grid.proofs.grid_bad.Tie as tie
 
-returns : tie.Need-returns
-returns c = c.latlon-bad.ensures ∙ sym (faults-by _ _ c.before.before.a.given.1)
+returns : tie.Need-returns-in-LatLon
+returns c = c.latlon_bad.ensures ∙ sym (faults-by _ _ c.in-LatLon.is)
 
-returns-2 : tie.Need-returns-2
-returns-2 c = c.thinned-bad.ensures ∙ sym (faults-by _ _ c.before.before.a2.given.1)
+returns-2 : tie.Need-returns-in-Thinned
+returns-2 c = c.thinned_bad.ensures ∙ sym (faults-by _ _ c.in-Thinned.is)
 
-returns-3 : tie.Need-returns-3
-returns-3 c = c.mercator-bad.ensures ∙ sym (faults-by _ _ c.before.before.a3.given.1)
+returns-3 : tie.Need-returns-in-Mercator
+returns-3 c = c.mercator_bad.ensures ∙ sym (faults-by _ _ c.in-Mercator.is)
 
-returns-4 : tie.Need-returns-4
-returns-4 c = c.lambert-bad.ensures ∙ sym (faults-by _ _ c.before.before.a4.given.1)
+returns-4 : tie.Need-returns-in-Lambert
+returns-4 c = c.lambert_bad.ensures ∙ sym (faults-by _ _ c.in-Lambert.is)
 
-returns-5 : tie.Need-returns-5
-returns-5 c = c.gaussian-bad.ensures ∙ sym (faults-by _ _ c.before.before.a5.given.1)
+returns-5 : tie.Need-returns-in-Gaussian
+returns-5 c = c.gaussian_bad.ensures ∙ sym (faults-by _ _ c.in-Gaussian.is)
 
-returns-6 : tie.Need-returns-6
-returns-6 c = c.polar-bad.ensures ∙ sym (faults-by _ _ c.before.before.a6.given.1)
+returns-6 : tie.Need-returns-in-Polar
+returns-6 c = c.polar_bad.ensures ∙ sym (faults-by _ _ c.in-Polar.is)
 
 pub grid_bad_spec : {M : Type 1} → statement M
 grid_bad_spec =

@@ -4,13 +4,13 @@ use borrow.Author.Rules.{rules}
 use Rattle.grid.proofs.grid_from.Statement.{statement}
 use Rattle.grid.proofs.grid_from.Tie as tie
 
-returns : tie.Need-returns
+returns : tie.Need-returns-in-Given
 unfolding the_grid_from
-returns c = rw c.before.given.given.1
+returns c = rw c.in-Given.is
 
-returns-2 : tie.Need-returns-2
+returns-2 : tie.Need-returns-in-Nothing
 unfolding the_grid_from
-returns-2 c = rw (c.before.before.enum_told.given.1, c.catalogued.ensures, c.before.octet.ensures)
+returns-2 c = rw (c.in-Nothing.is, c.catalogued.ensures, c.octet.ensures)
 
 pub grid_from_spec : {M : Type 1} → statement M
 grid_from_spec =

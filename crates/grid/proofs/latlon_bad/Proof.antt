@@ -8,7 +8,7 @@ use Rattle.grid.proofs.latlon_bad.Tie as tie
 
 returns : tie.Need-returns
 unfolding any_of or_all cells_faults cells_by
-returns c = rw c.corners-bad.ensures
+returns c = rw c.corners_bad.ensures
 
 pub latlon_bad_spec : {M : Type 1} → statement M
 latlon_bad_spec =

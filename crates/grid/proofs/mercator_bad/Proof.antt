@@ -10,10 +10,10 @@ returns : tie.Need-returns
 unfolding any_of or_all cells_faults cells_by
 returns c =
     rw (
-      c.distance-bad2.ensures,
-      c.before.distance-bad.ensures,
-      c.before.before.latitude-bad.ensures,
-      c.before.before.before.corners-bad.ensures,
+      c.distance_bad-2.ensures,
+      c.distance_bad.ensures,
+      c.latitude_bad.ensures,
+      c.corners_bad.ensures,
     )
 
 pub mercator_bad_spec : {M : Type 1} → statement M

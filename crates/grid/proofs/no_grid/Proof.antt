@@ -6,7 +6,7 @@ use Rattle.grid.proofs.no_grid.Tie as tie
 
 returns : tie.Need-returns
 unfolding the_no_grid
-returns c = rw c.plain.ensures (search rules)
+returns c = rw c.plain-none.ensures (search rules)
 
 pub no_grid_spec : {M : Type 1} → statement M
 no_grid_spec =

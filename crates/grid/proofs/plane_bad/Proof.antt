@@ -8,14 +8,14 @@ returns : tie.Need-returns
 unfolding any_of or_all
 returns c =
     rw (
-      c.distance-bad2.ensures,
-      c.before.distance-bad.ensures,
-      c.before.before.longitude-bad2.ensures,
-      c.before.before.before.longitude-bad.ensures,
-      c.before.before.before.before.latitude-bad.ensures,
-      c.before.before.before.before.before.side-bad2.ensures,
-      c.before.before.before.before.before.before.side-bad.ensures,
-      c.before.before.before.before.before.before.before.points-bad.ensures,
+      c.distance_bad-2.ensures,
+      c.distance_bad.ensures,
+      c.longitude_bad-2.ensures,
+      c.longitude_bad.ensures,
+      c.latitude_bad.ensures,
+      c.side_bad-2.ensures,
+      c.side_bad.ensures,
+      c.points_bad.ensures,
     )
 
 pub plane_bad_spec : {M : Type 1} → statement M

@@ -4,7 +4,7 @@ use Rattle.grid.proofs.points.Statement.{statement}
 use Rattle.grid.proofs.points.Tie as tie
 
 returns : tie.Need-returns
-returns c = rw (c.Points-on.ensures, c.before.shape_of.ensures)
+returns c = rw (c.points_on.ensures, c.shape_of.ensures)
 
 pub points_spec : {M : Type 1} → statement M
 points_spec =

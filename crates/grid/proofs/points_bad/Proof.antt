@@ -5,7 +5,7 @@ use borrow.Author.Rules.{rules}
 use Rattle.grid.proofs.points_bad.Statement.{statement}
 use Rattle.grid.proofs.points_bad.Tie as tie
 
-mul-n : tie.Need-overflow-mul-n
+mul-n : tie.Need-overflow_mul-n
 mul-n c = record { fits = product 65535 65535 4294967296 tt _ _ (omega arith) (omega arith) }
 
 pub points_bad_spec : {M : Type 1} → statement M

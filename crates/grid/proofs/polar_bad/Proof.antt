@@ -8,7 +8,7 @@ use Rattle.grid.proofs.polar_bad.Tie as tie
 
 returns : tie.Need-returns
 unfolding any_of or_all cells_faults cells_by
-returns c = rw c.plane-bad.ensures
+returns c = rw c.plane_bad.ensures
 
 pub polar_bad_spec : {M : Type 1} → statement M
 polar_bad_spec =

@@ -3,8 +3,8 @@ use borrow.Author.Rules.{rules}
 use Rattle.grid.proofs.the_grid.Statement.{statement}
 use Rattle.grid.proofs.the_grid.Tie as tie
 
-returns-2 : tie.Need-returns-2
-returns-2 c = rw c.before.f.given.1
+returns-2 : tie.Need-returns-in-Given
+returns-2 c = rw c.in-Given.is
 
 pub the_grid_spec : {M : Type 1} → statement M
 the_grid_spec =

@@ -10,11 +10,11 @@ returns : tie.Need-returns
 unfolding any_of or_all cells_faults cells_by
 returns c =
     rw (
-      c.longitude-bad2.ensures,
-      c.before.latitude-bad2.ensures,
-      c.before.before.longitude-bad.ensures,
-      c.before.before.before.latitude-bad.ensures,
-      c.before.before.before.before.is-octant.ensures,
+      c.longitude_bad-2.ensures,
+      c.latitude_bad-2.ensures,
+      c.longitude_bad.ensures,
+      c.latitude_bad.ensures,
+      c.is_octant.ensures,
     )
 
 pub thinned_bad_spec : {M : Type 1} → statement M

@@ -5,31 +5,31 @@ use borrow.Author.Rules.{rules}
 use Rattle.handed_back.proofs.force_part.Statement.{statement}
 use Rattle.handed_back.proofs.force_part.Tie as tie
 
-returns : tie.Need-returns
-returns c = L.no-force _ _ _ c.before.before.header.ensures c.if1.true
+returns : tie.Need-returns-then-h-ne0
+returns c = L.no-force _ _ _ c.header-h.ensures c.if-h-ne0.true
 
-add-t14 : tie.Need-overflow-add-t14
+add-t14 : tie.Need-overflow_add-result
 add-t14 c =
     omega (
       arith,
-      L.start-room _ _ _ c.before.before.before.before.before.header.ensures
-          c.before.before.before.if1.false,
+      L.start-room _ _ _ c.header-h.ensures
+          c.if-h-ne0.false,
     )
 
-returns-2 : tie.Need-returns-2
+returns-2 : tie.Need-returns-in-Without
 returns-2 c =
-    L.by-none _ _ _ c.before.before.before.before.before.header.ensures c.before.before.before.if1.false
-    c.enum_told.given.1
+    L.by-none _ _ _ c.header-h.ensures c.if-h-ne0.false
+    c.in-Without.is
 
-returns-3 : tie.Need-returns-3
+returns-3 : tie.Need-returns-in-Carried
 returns-3 c =
-    L.by-carried _ _ _ c.before.before.before.before.before.header.ensures
-    c.before.before.before.if1.false c.enum-told2.given.1
+    L.by-carried _ _ _ c.header-h.ensures
+    c.if-h-ne0.false c.in-Carried.is
 
-returns-4 : tie.Need-returns-4
+returns-4 : tie.Need-returns-in-Stored
 returns-4 c =
-    L.by-stored _ _ _ c.before.before.before.before.before.header.ensures
-    c.before.before.before.if1.false _ c.enum-told3.given.1
+    L.by-stored _ _ _ c.header-h.ensures
+    c.if-h-ne0.false _ c.in-Stored.is
 
 pub force_part_spec : {M : Type 1} → statement M
 force_part_spec =

@@ -6,21 +6,21 @@ use Rattle.handed_back.proofs.in_force.Tie as tie
 
 cut-requires : tie.Need-cut-requires
 cut-requires c κs =
-    L.store_fits _ _ _ c.before.before.before.before.force-part.ensures c.before.before.if1.true
+    L.store_fits _ _ _ c.force_part-f.ensures c.if-f.true
 
-returns : tie.Need-returns
+returns : tie.Need-returns-then-f
 returns c =
-    L.of_store _ _ _ c.before.before.before.before.before.force-part.ensures _ _ _
-    c.before.before.before.if1.true c.cut.ensures
+    L.of_store _ _ _ c.force_part-f.ensures _ _ _
+    c.if-f.true c.cut.ensures
 
 cut-requires-2 : tie.Need-cut-requires-2
 cut-requires-2 c κs =
-    L.message-fits _ _ _ c.before.before.before.before.force-part.ensures c.before.before.if1.false
+    L.message-fits _ _ _ c.force_part-f.ensures c.if-f.false
 
-returns-2 : tie.Need-returns-2
+returns-2 : tie.Need-returns
 returns-2 c =
-    L.of-message _ _ _ c.before.before.before.before.before.force-part.ensures _ _ _
-    c.before.before.before.if1.false c.cut2.ensures
+    L.of-message _ _ _ c.force_part-f.ensures _ _ _
+    c.if-f.false c.cut-2.ensures
 
 pub in_force_spec : {M : Type 1} → statement M
 in_force_spec =

@@ -9,10 +9,10 @@ returns : tie.Need-returns
 unfolding first_or data_rows
 returns c =
     rw (
-      c.refuse2.ensures,
-      c.before.refuse.ensures,
-      c.before.before.packing-bad.ensures,
-      c.before.before.before.bitmap-bad.ensures,
+      c.refuse-2.ensures,
+      c.refuse.ensures,
+      c.packing_bad.ensures,
+      c.bitmap_bad.ensures,
     )
 
 pub data_judged_spec : {M : Type 1} → statement M

@@ -9,14 +9,14 @@ returns : tie.Need-returns
 unfolding first_or grid_rows
 returns c =
     rw (
-      c.refuse3.ensures,
-      c.before.refuse2.ensures,
-      c.before.before.refuse.ensures,
-      c.before.before.before.grid-bad.ensures,
-      c.before.before.before.before.the-grid.ensures,
-      c.before.before.before.before.before.grid-missing.ensures,
-      c.before.before.before.before.before.before.gds-bad.ensures,
-      c.before.before.before.before.before.before.before.has-grid.ensures,
+      c.refuse-3.ensures,
+      c.refuse-2.ensures,
+      c.refuse.ensures,
+      c.grid_bad.ensures,
+      c.the_grid.ensures,
+      c.grid_missing.ensures,
+      c.gds_bad.ensures,
+      c.has_grid.ensures,
     )
 
 pub grid_judged_spec : {M : Type 1} → statement M

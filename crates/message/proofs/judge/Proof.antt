@@ -6,8 +6,8 @@ use Rattle.message.proofs.judge.Tie as tie
 
 returns : tie.Need-returns
 returns c =
-    stages _ _ _ _ _ _ _ c.before.before.before.before.refusal.ensures c.before.before.data-judged.ensures
-    c.before.grid-judged.ensures c.layout.ensures
+    stages _ _ _ _ _ _ _ c.refusal-none.ensures c.data_judged-last.ensures
+    c.grid_judged.ensures c.layout.ensures
 
 pub judge_spec : {M : Type 1} → statement M
 judge_spec =

@@ -8,15 +8,15 @@ returns : tie.Need-returns
 unfolding parsed_of grid_of grid_in points_in bitmap_in packing_in
 returns c =
     rw (
-      c.packing-at.ensures,
-      c.before.before.bitmap-at.ensures,
-      c.before.before.before.has-bitmap.ensures,
-      c.before.before.before.before.points.ensures,
-      c.before.before.before.before.before.the-grid.ensures,
-      c.before.before.before.before.before.before.grid-from.ensures,
-      c.before.before.before.before.before.before.before.grid-in.ensures,
-      c.before.before.before.before.before.before.before.before.has-grid.ensures,
-      c.before.before.before.before.before.before.before.before.before.places.ensures,
+      c.packing_at.ensures,
+      c.bitmap_at.ensures,
+      c.has_bitmap.ensures,
+      c.points.ensures,
+      c.the_grid-grid.ensures,
+      c.grid_from-found.ensures,
+      c.grid_in-given.ensures,
+      c.has_grid.ensures,
+      c.places-places.ensures,
     )
 
 pub parse_spec : {M : Type 1} → statement M

@@ -7,7 +7,7 @@ use Rattle.message.proofs.refused.Tie as tie
 
 returns : tie.Need-returns
 unfolding refused_by no_moment
-returns c = rw (c.the-grid.ensures, c.before.plain.ensures)
+returns c = rw (c.the_grid-grid.ensures, c.plain-zero.ensures)
 
 pub refused_spec : {M : Type 1} → statement M
 refused_spec = tie.close (tie.spec (λ c κs. search rules) (λ c κs. search rules) returns)

@@ -9,9 +9,9 @@ unfolding found_by decimal_in
 returns c =
     rw (
       c.scale_at.ensures,
-      c.before.before.signed-two.ensures,
-      c.before.before.before.moment-at.ensures,
-      c.before.before.before.before.refusal.ensures,
+      c.signed_two.ensures,
+      c.moment_at.ensures,
+      c.refusal.ensures,
     )
 
 pub taken_spec : {M : Type 1} → statement M

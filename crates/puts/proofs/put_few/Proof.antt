@@ -8,8 +8,8 @@ use Rattle.puts.proofs.put_few.Tie as tie
 
 returns : tie.Need-returns
 returns c =
-    let f = c.before.before.put-number in
-    let a = c.before.before.before.before.before.args in (
+    let f = c.put_number in
+    let a = c.args in (
       f.ensures.0 ∙ few-answer a.out.now a.p a.k a.c a.x (omega arith),
       f.ensures.1
           ∙ few-left a.out.now a.p a.k a.c a.x (omega arith),

@@ -14,44 +14,40 @@ use Rattle.puts.proofs.put_signed.Statement.{statement}
 use Rattle.puts.proofs.put_signed.Tie as tie
 
 judged : (c : tie.After-small)
-    → c.small.result ≡ ltb (nat_abs c.before.before.args.z) c.before.before.args.half
-judged c = simp (to_z-of_z c.before.before.ranges.z) at c.small.ensures
+    → c.small.result ≡ ltb (nat_abs c.args.z) c.args.half
+judged c = simp (to_z-of_z c.ranges.z) at c.small.ensures
 
-yes : (c : tie.Then1) → nat_abs c.before.before.before.args.z < c.before.before.before.args.half
-yes c = ltb-true _ _ (sym (judged c.before) ∙ c.if1.true)
+yes : (c : tie.Then-small) → nat_abs c.args.z < c.args.half
+yes c = ltb-true _ _ (sym (judged c.before) ∙ c.if-small.true)
 
-no : (c : tie.Else1) → c.before.before.before.args.half ≤ nat_abs c.before.before.before.args.z
-no c = ltb-false _ _ (sym (judged c.before) ∙ c.if1.false)
+no : (c : tie.Else-small) → c.args.half ≤ nat_abs c.args.z
+no c = ltb-false _ _ (sym (judged c.before) ∙ c.if-small.false)
 
 spell-requires : tie.Need-spell-requires
-spell-requires c κs = (omega arith, simp (to_z-of_z c.before.before.before.before.ranges.z) (yes c.before))
+spell-requires c κs = (omega arith, simp (to_z-of_z c.ranges.z) (yes c.before))
 
 spelt : (c : tie.After-spell) →
-    let a = c.before.before.before.before.before.args in
+    let a = c.args in
     c.spell.result ≡ cond (lt_z a.z (pos 0)) (a.half + nat_abs a.z) (nat_abs a.z)
-spelt c = simp (to_z-of_z c.before.before.before.before.before.ranges.z) at c.spell.ensures
+spelt c = simp (to_z-of_z c.ranges.z) at c.spell.ensures
 
-returns : tie.Need-returns
+returns : tie.Need-returns-then-small
 returns c =
-    let d = c.before.before.before in
-    let t = d.before.before in
-    let b = t.before.before.before in
-    let a = b.args in (
-      c.before.before.put-few.ensures.0
-          ∙ signed-answer a.out.now a.p a.k a.c a.half a.z b.requires.1.0 (omega arith) (yes t) _
-          (spelt d),
-      c.before.before.put-few.ensures.1
-          ∙ signed-left a.out.now a.p a.k a.c a.half a.z b.requires.1.0 (omega arith) (yes t) _
-          (spelt d),
+    let a = c.args in (
+      c.put_few.ensures.0
+          ∙ signed-answer a.out.now a.p a.k a.c a.half a.z c.requires.1.0 (omega arith) (yes c.before.before.before.before.before) _
+          (spelt c.before.before.before),
+      c.put_few.ensures.1
+          ∙ signed-left a.out.now a.p a.k a.c a.half a.z c.requires.1.0 (omega arith) (yes c.before.before.before.before.before) _
+          (spelt c.before.before.before),
     )
 
-returns-2 : tie.Need-returns-2
+returns-2 : tie.Need-returns
 returns-2 c =
-    let b = c.before.before.before in
-    let a = b.args in (
-      unsigned_answer a.out.now a.p a.k a.c a.half a.z b.requires.1.0 (no c),
+    let a = c.args in (
+      unsigned_answer a.out.now a.p a.k a.c a.half a.z c.requires.1.0 (no c),
       unsigned_left
-          a.out.now a.p a.k a.c a.half a.z b.requires.1.0 (no c),
+          a.out.now a.p a.k a.c a.half a.z c.requires.1.0 (no c),
     )
 
 pub put_signed_spec : {M : Type 1} → statement M

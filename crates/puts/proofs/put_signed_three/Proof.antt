@@ -7,8 +7,7 @@ use Rattle.puts.proofs.put_signed_three.Tie as tie
 
 returns : tie.Need-returns
 returns c =
-    let f = c.before.before in
-    simp (to_z-of_z {w = w32} {z = f.before.before.before.before.args.z.value} (record { sfits = f.before.struct_told.given.0.1 })) at f.put-signed.ensures
+    simp (to_z-of_z {w = w32} {z = c.args.z.value} (record { sfits = c.struct_told-1.given.0.1 })) at c.put_signed.ensures
 
 pub put_signed_three_spec : {M : Type 1} → statement M
 put_signed_three_spec = tie.close (tie.spec (λ c κs. search rules) (λ c. search rules) returns)

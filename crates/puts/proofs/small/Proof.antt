@@ -7,7 +7,7 @@ use Rattle.octets.proofs.Signs.{neg_back, neg_sub-fits, small_is}
 use Rattle.puts.proofs.small.Statement.{statement}
 use Rattle.puts.proofs.small.Tie as tie
 
-sub-result : tie.Need-overflow-sub-result
+sub-result : tie.Need-overflow_sub-result
 sub-result c = neg_sub-fits c.args.half (omega arith)
 
 returns : tie.Need-returns

@@ -9,17 +9,16 @@ use Rattle.records.proofs.grid_record.Tie as tie
 
 returns : tie.Need-returns
 returns c =
-    let v9 = c.value9 in
-    let v8 = c.before.value8 in
-    let v7 = c.before.before.value7 in
-    let v6 = c.before.before.before.value6 in
-    let v5 = c.before.before.before.before.value5 in
-    let v4 = c.before.before.before.before.before.value4 in
-    let v3 = c.before.before.before.before.before.before.value3 in
-    let v2 = c.before.before.before.before.before.before.before.value2 in
-    let v1 = c.before.before.before.before.before.before.before.before.value in
-    let b = c.before.before.before.before.before.before.before.before.before in
-    grid-made b.before.args.g _ _ _ _ _ _ _ _ _ _ b.figures-of.ensures
+    let v9 = c.value-9 in
+    let v8 = c.value-8 in
+    let v7 = c.value-7 in
+    let v6 = c.value-6 in
+    let v5 = c.value-5 in
+    let v4 = c.value-4 in
+    let v3 = c.value-3 in
+    let v2 = c.value-2 in
+    let v1 = c.value in
+    grid-made c.args.g _ _ _ _ _ _ _ _ _ _ c.figures_of-x.ensures
     (to_z-of_z {w = w32} {z = v1.result} (record { sfits = v1.type-inv }) ∙ v1.ensures)
     (to_z-of_z {w = w32} {z = v2.result} (record { sfits = v2.type-inv }) ∙ v2.ensures)
     (to_z-of_z {w = w32} {z = v3.result} (record { sfits = v3.type-inv }) ∙ v3.ensures)

@@ -9,19 +9,19 @@ use Rattle.records.proofs.header_record.Tie as tie
 
 returns : tie.Need-returns
 returns c =
-    let d = c.before.before.before.before.before.before.before.before.value in
-    let e = c.before.before.before.before.before.before.before.value2 in
-    header_made c.before.before.before.before.before.before.before.before.before.before.before.args.h _ _
+    let d = c.value in
+    let e = c.value-2 in
+    header_made c.args.h _ _
     _ _ _ _ _ _ _
     (to_z-of_z {w = w32} {z = d.result} (record { sfits = d.type-inv }) ∙ d.ensures)
     (to_z-of_z {w = w32} {z = e.result} (record { sfits = e.type-inv }) ∙ e.ensures)
-    c.before.before.before.before.before.before.bitmap-kind.ensures
-    c.before.before.before.before.before.grid-record.ensures
-    c.before.before.before.before.part-record.ensures
-    c.before.before.before.part-record2.ensures
-    c.before.before.part-record3.ensures
-    c.before.part-record4.ensures
-    c.bitmap-number.ensures
+    c.bitmap_kind.ensures
+    c.grid_record.ensures
+    c.part_record.ensures
+    c.part_record-2.ensures
+    c.part_record-3.ensures
+    c.part_record-4.ensures
+    c.bitmap_number.ensures
 
 pub header_record_spec : {M : Type 1} → statement M
 header_record_spec =

@@ -4,29 +4,29 @@ use Rattle.scaling.proofs.Distances.{kept-is}
 use Rattle.scaling.proofs.apart.Statement.{statement}
 use Rattle.scaling.proofs.apart.Tie as tie
 
-cast-d : tie.Need-overflow-cast-d
+cast-d : tie.Need-overflow_cast-d
 cast-d c = wide_fits _ c.ranges.v
 
-cast-d-2 : tie.Need-overflow-cast-d-2
+cast-d-2 : tie.Need-overflow_cast-d-2
 cast-d-2 c = wide_fits _ c.ranges.r
 
-sub-d : tie.Need-overflow-sub-d
+sub-d : tie.Need-overflow_sub-d
 sub-d c = difference_fits _ _ c.ranges.v c.ranges.r
 
-sub-result : tie.Need-overflow-sub-result
-sub-result c = turned-fits _ _ c.before.ranges.v c.before.ranges.r
+sub-result : tie.Need-overflow_sub-result
+sub-result c = turned-fits _ _ c.ranges.v c.ranges.r
 
-cast-result : tie.Need-overflow-cast-result
-cast-result c = size_fits _ _ c.before.ranges.v c.before.ranges.r c.if1.true
+cast-result : tie.Need-overflow_cast-result
+cast-result c = size_fits _ _ c.ranges.v c.ranges.r c.if-d-lt0.true
 
-returns : tie.Need-returns
-returns c = turned-is _ _ c.before.ranges.v c.before.ranges.r c.if1.true
+returns : tie.Need-returns-then-d-lt0
+returns c = turned-is _ _ c.ranges.v c.ranges.r c.if-d-lt0.true
 
-cast-result-2 : tie.Need-overflow-cast-result-2
-cast-result-2 c = kept-fits _ _ c.before.ranges.v c.before.ranges.r c.if1.false
+cast-result-2 : tie.Need-overflow_cast-result-2
+cast-result-2 c = kept-fits _ _ c.ranges.v c.ranges.r c.if-d-lt0.false
 
-returns-2 : tie.Need-returns-2
-returns-2 c = kept-is _ _ c.before.ranges.v c.before.ranges.r
+returns-2 : tie.Need-returns
+returns-2 c = kept-is _ _ c.ranges.v c.ranges.r
 
 pub apart_spec : {M : Type 1} → statement M
 apart_spec =

@@ -10,18 +10,15 @@ use Rattle.scaling.proofs.choose.Tie as tie
 
 returns : tie.Need-returns
 returns c d =
-    let s = c.before in
-    let p = s.before.before in
-    let t = p.before in
-    let w = t.before.walk in
-    let a = t.before.before.before.args in
-    let low = to_z-of_z {w = w32} {z = w.result.low} (record { sfits = t.struct_told.given.1.0.1 }) in
-    let high = to_z-of_z {w = w32} {z = w.result.high} (record { sfits = t.struct_told.given.1.1.0.1 }) in
-    let back = to_z-of_z {w = w32} {z = p.pick.result} (record { sfits = p.pick.type-inv }) in
-    let r = reference-is a.numbers.now a.marks.now d _ _ _ w.ensures.0 (low ∙ w.ensures.1.0) p.pick.ensures in (
+    let w = c.walk-x in
+    let a = c.args in
+    let low = to_z-of_z {w = w32} {z = w.result.low} (record { sfits = c.struct_told-1.given.1.0.1 }) in
+    let high = to_z-of_z {w = w32} {z = w.result.high} (record { sfits = c.struct_told-1.given.1.1.0.1 }) in
+    let back = to_z-of_z {w = w32} {z = c.pick-r.result} (record { sfits = c.pick-r.type_inv }) in
+    let r = reference-is a.numbers.now a.marks.now d _ _ _ w.ensures.0 (low ∙ w.ensures.1.0) c.pick-r.ensures in (
       back ∙ r,
-      exponent-is a.numbers.now a.marks.now d _ _ p.pick.type-inv r w.ensures.1.1 a.bits _ _
-          (s.spread.ensures ∙ ap₂ spread_of back high) c.least_step.ensures,
+      exponent-is a.numbers.now a.marks.now d _ _ c.pick-r.type_inv r w.ensures.1.1 a.bits _ _
+          (c.spread.ensures ∙ ap₂ spread_of back high) c.least_step-e.ensures,
     )
 
 pub choose_spec : {M : Type 1} → statement M

@@ -16,42 +16,41 @@ use Rattle.scaling.proofs.Folded.{fold_none, fold_next}
 use Rattle.scaling.proofs.greatest_of.Statement.{statement}
 use Rattle.scaling.proofs.greatest_of.Tie as tie
 
-abbrev invariant-loop : tie.invariant-loop
+abbrev invariant-loop : tie.invariant-loop-k
 invariant-loop numbers c high greatest₀ k₀ greatest k =
     (k ≤ c) × ((to_z w32 greatest ≡ folded greater_of (to_z w32 high) (λ j. get_or numbers j (pos 0)) k)
     × ((j : ℕ) → j < k → mag (get_or numbers j (pos 0)) < 2 ^ 31))
 
-abbrev decreases-loop : tie.decreases-loop
+abbrev decreases-loop : tie.decreases-loop-k
 decreases-loop numbers c high greatest₀ k₀ greatest k = c - k
 
-loop-holds : tie.Need-loop-init invariant-loop decreases-loop
+loop-holds : tie.Need-loop-k-init invariant-loop decreases-loop
 loop-holds c = (omega arith, (fold_none _ _ _, λ j l. absurd (omega arith)))
 
-loop-again : tie.Need-loop-preserved invariant-loop decreases-loop
+loop-again : tie.Need-loop-k-preserved invariant-loop decreases-loop
 loop-again c =
-    let l = c.before.before.before.loop in
-    let a = c.before.before.before.before.args in
-    let found : to_z w32 (of_z w32 c.greater.result) ≡ folded greater_of (to_z w32 (of_z w32 a.high)) (λ j. get_or a.numbers.now j (pos 0)) (l.k + 1) =
-    to_z-of_z {w = w32} {z = c.greater.result} (record { sfits = c.greater.type-inv })
-    ∙ fold_next greater_of _ (λ j. get_or a.numbers.now j (pos 0)) l.k _ _ _ (to_z-of_z {w = w32} {z = get_or a.numbers.now l.k (pos 0)} (record { sfits = c.before.greater-arg.given })) l.invariant.1.0 c.greater.ensures in (
+    let l = c.loop-k in
+    let a = c.args in
+    let found : to_z w32 (of_z w32 c.greater-greatest.result) ≡ folded greater_of (to_z w32 (of_z w32 a.high)) (λ j. get_or a.numbers.now j (pos 0)) (l.k + 1) =
+    to_z-of_z {w = w32} {z = c.greater-greatest.result} (record { sfits = c.greater-greatest.type_inv })
+    ∙ fold_next greater_of _ (λ j. get_or a.numbers.now j (pos 0)) l.k _ _ _ (to_z-of_z {w = w32} {z = get_or a.numbers.now l.k (pos 0)} (record { sfits = c.greater-arg-1.given })) l.invariant.1.0 c.greater-greatest.ensures in (
       omega arith,
       (
         found,
         rw add-one
             (upto (λ j. mag (get_or a.numbers.now j (pos 0)) < 2 ^ 31) l.k l.invariant.1.1
-            c.before.greater-arg.given),
+            c.greater-arg-1.given),
       ),
     )
 
 returns : tie.Need-returns invariant-loop decreases-loop
 returns c =
-    let l = c.before.loop in
-    let s = c.before.before in
-    let a = s.args in
+    let l = c.loop-k in
+    let a = c.args in
     let e : l.k ≡ a.c = omega arith in (
       l.invariant.1.0
           ∙ ap₂ (λ (n : ℕ) (z : ℤ). folded greater_of z (λ j. get_or a.numbers.now j (pos 0)) n) e
-          (to_z-of_z s.ranges.high),
+          (to_z-of_z c.ranges.high),
       λ j q. l.invariant.1.1 j (omega arith),
     )
 

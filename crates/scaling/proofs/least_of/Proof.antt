@@ -13,33 +13,32 @@ use Rattle.scaling.proofs.Folded.{fold_none, fold_next}
 use Rattle.scaling.proofs.least_of.Statement.{statement}
 use Rattle.scaling.proofs.least_of.Tie as tie
 
-abbrev invariant-loop : tie.invariant-loop
+abbrev invariant-loop : tie.invariant-loop-k
 invariant-loop numbers c low least₀ k₀ least k =
     (k ≤ c) × (to_z w32 least ≡ folded lesser_of (to_z w32 low) (λ j. get_or numbers j (pos 0)) k)
 
-abbrev decreases-loop : tie.decreases-loop
+abbrev decreases-loop : tie.decreases-loop-k
 decreases-loop numbers c low least₀ k₀ least k = c - k
 
-loop-holds : tie.Need-loop-init invariant-loop decreases-loop
+loop-holds : tie.Need-loop-k-init invariant-loop decreases-loop
 loop-holds c = (omega arith, fold_none _ _ _)
 
-loop-again : tie.Need-loop-preserved invariant-loop decreases-loop
+loop-again : tie.Need-loop-k-preserved invariant-loop decreases-loop
 loop-again c =
-    let l = c.before.before.before.loop in
-    let a = c.before.before.before.before.args in
-    let found : to_z w32 (of_z w32 c.lesser.result) ≡ folded lesser_of (to_z w32 (of_z w32 a.low)) (λ j. get_or a.numbers.now j (pos 0)) (l.k + 1) =
-    to_z-of_z {w = w32} {z = c.lesser.result} (record { sfits = c.lesser.type-inv })
-    ∙ fold_next lesser_of _ (λ j. get_or a.numbers.now j (pos 0)) l.k _ _ _ (to_z-of_z {w = w32} {z = get_or a.numbers.now l.k (pos 0)} (record { sfits = c.before.lesser-arg.given })) l.invariant.1 c.lesser.ensures in
+    let l = c.loop-k in
+    let a = c.args in
+    let found : to_z w32 (of_z w32 c.lesser-least.result) ≡ folded lesser_of (to_z w32 (of_z w32 a.low)) (λ j. get_or a.numbers.now j (pos 0)) (l.k + 1) =
+    to_z-of_z {w = w32} {z = c.lesser-least.result} (record { sfits = c.lesser-least.type_inv })
+    ∙ fold_next lesser_of _ (λ j. get_or a.numbers.now j (pos 0)) l.k _ _ _ (to_z-of_z {w = w32} {z = get_or a.numbers.now l.k (pos 0)} (record { sfits = c.lesser-arg-1.given })) l.invariant.1 c.lesser-least.ensures in
     (omega arith, found)
 
 returns : tie.Need-returns invariant-loop decreases-loop
 returns c =
-    let l = c.before.loop in
-    let s = c.before.before in
-    let a = s.args in
+    let l = c.loop-k in
+    let a = c.args in
     let e : l.k ≡ a.c = omega arith in
     l.invariant.1
-    ∙ ap₂ (λ (n : ℕ) (z : ℤ). folded lesser_of z (λ j. get_or a.numbers.now j (pos 0)) n) e (to_z-of_z s.ranges.low)
+    ∙ ap₂ (λ (n : ℕ) (z : ℤ). folded lesser_of z (λ j. get_or a.numbers.now j (pos 0)) n) e (to_z-of_z c.ranges.low)
 
 pub least_of_spec : {M : Type 1} → statement M
 least_of_spec =

@@ -7,31 +7,30 @@ use Rattle.rules.specs.Bounds.{step_most}
 use Rattle.scaling.proofs.least_step.Statement.{statement}
 use Rattle.scaling.proofs.least_step.Tie as tie
 
-abbrev invariant-loop : tie.invariant-loop
+abbrev invariant-loop : tie.invariant-loop-e
 invariant-loop bits r e₀ e = (e ≤ suc step_most) × NoneBefore bits r e
 
-abbrev decreases-loop : tie.decreases-loop
+abbrev decreases-loop : tie.decreases-loop-e
 decreases-loop bits r e₀ e = suc step_most - e
 
-loop-holds : tie.Need-loop-init invariant-loop decreases-loop
+loop-holds : tie.Need-loop-e-init invariant-loop decreases-loop
 loop-holds c = (omega arith, λ k l. absurd (omega arith))
 
-returns : tie.Need-returns invariant-loop decreases-loop
+returns : tie.Need-returns-then-not-fills invariant-loop decreases-loop
 returns c =
-    let b = c.before.before.before.before in
-    least-found _ _ _ b.loop.invariant.1 _ _ c.before.before.step.ensures c.before.fills.ensures
-    c.before.before.before.loop-test.true c.if1.true
+    least-found _ _ _ c.loop-e.invariant.1 _ _ c.step.ensures c.fills.ensures
+    c.loop-e-test.true c.if-not-fills.true
 
-loop-again : tie.Need-loop-preserved invariant-loop decreases-loop
+loop-again : tie.Need-loop-e-preserved invariant-loop decreases-loop
 loop-again c =
-    let b = c.before.before.before.before in (
+    (
       omega arith,
-      least_on _ _ _ b.loop.invariant.1 _ _ c.before.before.step.ensures c.before.fills.ensures
-          c.if1.false,
+      least_on _ _ _ c.loop-e.invariant.1 _ _ c.step.ensures c.fills.ensures
+          c.if-not-fills.false,
     )
 
-returns-2 : tie.Need-returns-2 invariant-loop decreases-loop
-returns-2 c = least-end _ _ _ c.before.loop.invariant.1 (omega arith)
+returns-2 : tie.Need-returns invariant-loop decreases-loop
+returns-2 c = least-end _ _ _ c.loop-e.invariant.1 (omega arith)
 
 pub least_step_spec : {M : Type 1} → statement M
 least_step_spec =

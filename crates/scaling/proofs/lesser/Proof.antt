@@ -5,14 +5,14 @@ use mir.Facts.{to_z-of_z}
 use Rattle.scaling.proofs.lesser.Statement.{statement}
 use Rattle.scaling.proofs.lesser.Tie as tie
 
-returns : tie.Need-returns
+returns : tie.Need-returns-then-a-b
 returns c =
-    to_z-of_z c.before.ranges.a
-    ∙ picked _ _ _ (ordered _ _ c.before.ranges.a c.before.ranges.b _ c.if1.true)
+    to_z-of_z c.ranges.a
+    ∙ picked _ _ _ (ordered _ _ c.ranges.a c.ranges.b _ c.if-a-b.true)
 
-returns-2 : tie.Need-returns-2
+returns-2 : tie.Need-returns
 returns-2 c =
-    to_z-of_z c.before.ranges.b ∙ passed _ _ _ (ordered _ _ c.before.ranges.a c.before.ranges.b _ c.if1.false)
+    to_z-of_z c.ranges.b ∙ passed _ _ _ (ordered _ _ c.ranges.a c.ranges.b _ c.if-a-b.false)
 
 pub lesser_spec : {M : Type 1} → statement M
 lesser_spec = tie.close (tie.spec returns returns-2)

@@ -9,10 +9,10 @@ use Rattle.scaling.proofs.reference.Tie as tie
 
 returns : tie.Need-returns
 returns c d =
-    let w = c.before.before.walk in
-    let a = c.before.before.before.before.args in
-    let low = to_z-of_z {w = w32} {z = w.result.low} (record { sfits = c.before.struct_told.given.1.0.1 }) in
-    let r = to_z-of_z {w = w32} {z = c.pick.result} (record { sfits = c.pick.type-inv }) in
+    let w = c.walk-x in
+    let a = c.args in
+    let low = to_z-of_z {w = w32} {z = w.result.low} (record { sfits = c.struct_told-1.given.1.0.1 }) in
+    let r = to_z-of_z {w = w32} {z = c.pick.result} (record { sfits = c.pick.type_inv }) in
     reference-is a.numbers.now a.marks.now d _ _ _ w.ensures.0 (low ∙ w.ensures.1.0)
     (r ∙ c.pick.ensures)
 

@@ -4,11 +4,11 @@ use borrow.Author.Tests.{lt-ltb, le-ltb}
 use Rattle.scaling.proofs.shorter.Statement.{statement}
 use Rattle.scaling.proofs.shorter.Tie as tie
 
-returns : tie.Need-returns
-returns c = picked _ _ _ (lt-ltb _ _ c.if1.true)
+returns : tie.Need-returns-then-a-b
+returns c = picked _ _ _ (lt-ltb _ _ c.if-a-b.true)
 
-returns-2 : tie.Need-returns-2
-returns-2 c = passed _ _ _ (le-ltb _ _ c.if1.false)
+returns-2 : tie.Need-returns
+returns-2 c = passed _ _ _ (le-ltb _ _ c.if-a-b.false)
 
 pub shorter_spec : {M : Type 1} → statement M
 shorter_spec = tie.close (tie.spec returns returns-2)

@@ -7,15 +7,15 @@ use borrow.Author.Rules.{rules}
 use Rattle.scaling.proofs.spread.Statement.{statement}
 use Rattle.scaling.proofs.spread.Tie as tie
 
-returns : tie.Need-returns
-returns c = picked _ _ _ (ordered _ _ c.before.ranges.high c.before.ranges.r _ c.if1.true)
+returns : tie.Need-returns-then-high-r
+returns c = picked _ _ _ (ordered _ _ c.ranges.high c.ranges.r _ c.if-high-r.true)
 
-returns-2 : tie.Need-returns-2
+returns-2 : tie.Need-returns
 returns-2 c =
-    let f = c.before.before.ranges in
+    let f = c.ranges in
     c.apart.ensures
     ∙ ap₂ (λ (a b : ℤ). nat_abs (a -ℤ b)) (to_z-of_z f.high) (to_z-of_z f.r)
-    ∙ passed _ _ _ (ordered _ _ f.high f.r _ c.before.if1.false)
+    ∙ passed _ _ _ (ordered _ _ f.high f.r _ c.if-high-r.false)
 
 pub spread_spec : {M : Type 1} → statement M
 spread_spec = tie.close (tie.spec returns (λ c κs. search rules) returns-2)

@@ -39,7 +39,7 @@ gathered : (g : tie.After-gather_numbers-m invariant-loop decreases-loop)
     → let l = g.loop-i in
     let a = g.args in
     Gathered (part a.numbers.now l.i g.next_few-c.result (inside g.before.before.before)) a.marks.now l.i
-    g.gather_numbers-m.result g.gather_numbers-m.new.1.1.1.0
+    g.gather_numbers-m.result g.gather_numbers-m.new.held
 gathered g =
     let f = g.next_few-c.ensures in
     let l = g.loop-i in
@@ -53,7 +53,7 @@ any-large-requires c κs =
       no_more _ _ _ _ _ (gathered c.before.before),
       long c.before.before.before.before.before,
       c.next_few-c.ensures.1.0,
-      c.gather_numbers-m.auto.1.1.1.0,
+      c.gather_numbers-m.auto.held,
     )
 
 loop-less : tie.Need-loop-i-smaller invariant-loop decreases-loop
@@ -67,7 +67,7 @@ loop-again c =
     let a = c.args in (
       omega (arith, c.next_few-c.ensures.0),
       (
-        c.gather_numbers-m.auto.1.1.1.0
+        c.gather_numbers-m.auto.held
             ∙ l.invariant.1.0,
         far-more a.numbers.now a.marks.now _ _ (inside c.before.before.before.before.before.before) _ _ (gathered c.before.before.before) _ _ l.invariant.1.1
             c.any_large-far.ensures,

@@ -9,15 +9,15 @@ returns : tie.Need-returns
 unfolding first first_or front_rows
 returns c =
     rw (
-      c.refuse3.ensures,
-      c.before.refuse2.ensures,
-      c.before.before.time-bad.ensures,
-      c.before.before.before.pds-bad.ensures,
-      c.before.before.before.before.refuse.ensures,
-      c.before.before.before.before.before.last.ensures,
-      c.before.before.before.before.before.before.grid-bad.ensures,
-      c.before.before.before.before.before.before.before.the-grid.ensures,
-      c.before.before.before.before.before.before.before.before.grid-missing.ensures,
+      c.refuse-2.ensures,
+      c.refuse.ensures,
+      c.time_bad.ensures,
+      c.pds_bad.ensures,
+      c.refuse-ground.ensures,
+      c.last.ensures,
+      c.grid_bad.ensures,
+      c.the_grid.ensures,
+      c.grid_missing.ensures,
     )
 
 pub front_spec : {M : Type 1} → statement M

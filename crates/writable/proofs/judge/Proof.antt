@@ -5,14 +5,13 @@ use borrow.Author.Rules.{rules}
 use Rattle.writable.proofs.judge.Statement.{statement}
 use Rattle.writable.proofs.judge.Tie as tie
 
-returns : tie.Need-returns
-returns c = own-early _ _ _ _ _ _ _ _ _ (c.before.before.judge-early.ensures _ refl) c.if1.true
+returns : tie.Need-returns-then-early-ne0
+returns c = own-early _ _ _ _ _ _ _ _ _ (c.judge_early-early.ensures _ refl) c.if-early-ne0.true
 
-returns-2 : tie.Need-returns-2
+returns-2 : tie.Need-returns
 returns-2 c =
-    let i = c.before.before in
-    own-last _ _ _ _ _ _ _ _ _ (i.before.before.judge-early.ensures _ refl) i.if1.false _
-    c.before.lists-bad.ensures _ c.last.ensures
+    own-last _ _ _ _ _ _ _ _ _ (c.judge_early-early.ensures _ refl) c.if-early-ne0.false _
+    c.lists_bad.ensures _ c.last.ensures
 
 pub judge_spec : {M : Type 1} → statement M
 judge_spec = tie.close (tie.spec (λ c κs. search rules) returns (λ c κs. search rules) (λ c κs. search rules) returns-2)

@@ -4,13 +4,12 @@ use borrow.Author.Rules.{rules}
 use Rattle.writable.proofs.judge_early.Statement.{statement}
 use Rattle.writable.proofs.judge_early.Tie as tie
 
-returns : tie.Need-returns
-returns c values e = early-front _ _ _ _ values _ _ _ _ c.before.before.front.ensures c.if1.true
+returns : tie.Need-returns-then-early-ne0
+returns c values e = early-front _ _ _ _ values _ _ _ _ c.front-early.ensures c.if-early-ne0.true
 
-returns-2 : tie.Need-returns-2
+returns-2 : tie.Need-returns
 returns-2 c values e =
-    let i = c.before in
-    early-middle _ _ _ _ values _ _ _ _ i.before.before.front.ensures i.if1.false _
+    early-middle _ _ _ _ values _ _ _ _ c.front-early.ensures c.if-early-ne0.false _
     (c.middle.ensures values e)
 
 pub judge_early_spec : {M : Type 1} → statement M

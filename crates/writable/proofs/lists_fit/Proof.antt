@@ -10,7 +10,7 @@ use Rattle.writable.proofs.lists_fit.Tie as tie
 
 returns : tie.Need-returns
 returns c =
-    let a = c.before.before.args in
+    let a = c.args in
     ap (λ (x : ℕ). eqb a.many a.n && eqb (length a.marks.now) x) c.long.ensures
 
 pub lists_fit_spec : {M : Type 1} → statement M

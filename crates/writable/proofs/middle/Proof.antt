@@ -10,9 +10,9 @@ unfolding first first_or middle_rows
 returns c values e =
     rw (
       c.refuse.ensures,
-      c.before.last.ensures,
-      c.before.before.scale-bad.ensures,
-      c.before.before.before.stored-bad.ensures values e,
+      c.last.ensures,
+      c.scale_bad.ensures,
+      c.stored_bad.ensures values e,
     )
 
 pub middle_spec : {M : Type 1} → statement M

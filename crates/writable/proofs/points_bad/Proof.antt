@@ -6,8 +6,8 @@ use Rattle.writable.proofs.points_bad.Tie as tie
 
 returns : tie.Need-returns
 returns c =
-    points-split _ _ _ _ _ c.before.before.before.before.before.requires _ _ _
-    c.before.before.marks-off.ensures c.before.lost.ensures c.all-below.ensures
+    points-split _ _ _ _ _ c.requires _ _ _
+    c.marks_off.ensures c.lost.ensures c.all_below.ensures
 
 pub points_bad_spec : {M : Type 1} → statement M
 points_bad_spec = tie.close (tie.spec (λ c κs. search rules) (λ c κs. search rules) (λ c κs. search rules) returns)

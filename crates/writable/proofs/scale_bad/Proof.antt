@@ -5,7 +5,7 @@ use Rattle.writable.proofs.scale_bad.Statement.{statement}
 use Rattle.writable.proofs.scale_bad.Tie as tie
 
 returns : tie.Need-returns
-returns c = scale-read _ _ _ _ c.before.exponent-bad.ensures c.packing-bad.ensures
+returns c = scale-read _ _ _ _ c.exponent_bad.ensures c.packing_bad.ensures
 
 pub scale_bad_spec : {M : Type 1} → statement M
 scale_bad_spec = tie.close (tie.spec (λ c κs. search rules) (λ c κs. search rules) returns)

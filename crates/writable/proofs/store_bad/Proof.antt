@@ -8,24 +8,22 @@ use borrow.Author.Rules.{rules}
 use Rattle.writable.proofs.store_bad.Statement.{statement}
 use Rattle.writable.proofs.store_bad.Tie as tie
 
-returns : tie.Need-returns
-returns c values e = store_wrong _ _ values _ _ c.if1.true
+returns : tie.Need-returns-then-wanted-number
+returns c values e = store_wrong _ _ values _ _ c.if-wanted-number.true
 
-returns-2 : tie.Need-returns-2
+returns-2 : tie.Need-returns-then-lists_fit
 returns-2 c values e =
-    let f = c.before.before in
-    let a = f.before.before.before.before.args in
-    store_read _ _ values _ _ f.before.if1.false
+    let a = c.args in
+    store_read _ _ values _ _ c.if-wanted-number.false
     (store_fit values a.long a.n (eqb (length a.marks.now) a.n) true e
-    (sym f.lists-fit.ensures ∙ c.before.if2.true)) _ c.unlike.ensures
+    (sym c.lists_fit.ensures ∙ c.if-lists_fit.true)) _ c.unlike.ensures
 
-returns-3 : tie.Need-returns-3
+returns-3 : tie.Need-returns
 returns-3 c values e =
-    let f = c.before in
-    let a = f.before.before.before.before.args in
-    store_short _ _ values _ _ f.before.if1.false
+    let a = c.args in
+    store_short _ _ values _ _ c.if-wanted-number.false
     (store_fit values a.long a.n (eqb (length a.marks.now) a.n) false e
-    (sym f.lists-fit.ensures ∙ c.if2.false))
+    (sym c.lists_fit.ensures ∙ c.if-lists_fit.false))
 
 pub store_bad_spec : {M : Type 1} → statement M
 store_bad_spec =

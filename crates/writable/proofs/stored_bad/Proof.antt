@@ -5,16 +5,16 @@ use borrow.Author.Rules.{rules}
 use Rattle.writable.proofs.stored_bad.Statement.{statement}
 use Rattle.writable.proofs.stored_bad.Tie as tie
 
-returns : tie.Need-returns
+returns : tie.Need-returns-in-Without
 unfolding any_of stored_faults
-returns c values e = rw c.enum_told.given.1
+returns c values e = rw c.in-Without.is
 
-returns-2 : tie.Need-returns-2
+returns-2 : tie.Need-returns-in-Carried
 unfolding any_of stored_faults
-returns-2 c values e = rw c.enum-told2.given.1
+returns-2 c values e = rw c.in-Carried.is
 
-returns-3 : tie.Need-returns-3
-returns-3 c values e = rw c.before.before.bitmap.given.1 (c.store-bad.ensures values e)
+returns-3 : tie.Need-returns-in-Stored
+returns-3 c values e = rw c.in-Stored.is (c.store_bad.ensures values e)
 
 pub stored_bad_spec : {M : Type 1} → statement M
 stored_bad_spec =

@@ -10,56 +10,48 @@ use Rattle.laws.specs.Sources.{WellFormed}
 use Rattle.checker.proofs.judging.judge.Statement.{statement}
 use Rattle.checker.proofs.judging.judge.Tie as tie
 
-abbrev start : tie.After-source-bad → tie.Start
+abbrev start : tie.After-source_bad → tie.Start
 start b = b.before.before.before.before
 
-returns : tie.Need-returns
+returns : tie.Need-returns-then-source_bad
 returns c =
-    let t = c.before in
-    let a = (start t.before).args in
-    source-refused _ _ _ _ a.d _ (t.before.source-bad.ensures a.d) t.if1.true _ c.refusal.ensures
+    let a = (start c.before.before).args in
+    source-refused _ _ _ _ a.d _ (c.source_bad.ensures a.d) c.if-source_bad.true _ c.refusal.ensures
 
 -- once 18 has passed
-good : (t : tie.Else1)
+good : (t : tie.Else-source_bad)
     → let a = (start t.before).args in WellFormed (record { numbers = a.numbers.now; marks = a.marks.now; d = a.d })
 good t =
     let a = (start t.before).args in
-    source_good a.s.now (record { number = a.number; octets = a.store.now }) a.numbers.now a.marks.now a.d _ (t.before.source-bad.ensures a.d) t.if1.false
+    source_good a.s.now (record { number = a.number; octets = a.store.now }) a.numbers.now a.marks.now a.d _ (t.source_bad.ensures a.d) t.if-source_bad.false
 
-cast-n : tie.Need-overflow-cast-n
+cast-n : tie.Need-overflow_cast-n
 cast-n c = record { fits = omega (arith, (good c).most) }
 
-any-far-requires : tie.Need-any-far-requires
+any-far-requires : tie.Need-any_far-out-requires
 any-far-requires c κs =
-    let p = c.before.before.before.before.before.before in
-    let t = p.before.before.before.before in
-    let f = start t.before in (
+    let f = start c.before.before.before.before.before.before.before.before.before.before.before in (
       (
         c.step_of_lem.ensures.0,
         (
           bits_most _ _ _ f.pre.0 f.pre.1,
-          data_early _ _ _ f.pre.0 f.pre.1 _ p.data-place.ensures,
+          data_early _ _ _ f.pre.0 f.pre.1 _ c.data_place-from.ensures,
         ),
       ),
-      ((good t).lists, (good t).most),
+      ((good c.before.before.before.before.before.before.before.before.before.before).lists, (good c.before.before.before.before.before.before.before.before.before.before).most),
     )
 
-returns-2 : tie.Need-returns-2
+returns-2 : tie.Need-returns
 returns-2 c =
-    let k = c.before.before.before.before.before in
-    let w = k.before.before in
-    let d = w.before in
-    let m = d.before.before.before in
-    let t = m.before.before.before.before.before in
-    let f = start t.before in
+    let f = start c.before.before.before.before.before.before.before.before.before.before.before.before.before.before.before.before.before in
     let a = f.args in
-    let r = to_z-of_z {w = w32} {z = w.whole_of.result} (record { sfits = w.whole_of.type-inv }) ∙ w.whole_of.ensures in
-    first_of a.s.now _ a.numbers.now a.marks.now a.d _ (t.before.source-bad.ensures a.d)
-    t.if1.false _ f.pre.0 f.pre.1 _ (to_z-of_z f.fits.d) _ r _ k.before.step_of_lem.ensures.1
-    _ m.marks-differ.ensures _ d.decimal-differs.ensures _ m.before.data-place.ensures _
-    k.any-far.ensures _ c.before.before.before.scale-bad.ensures _ _ _ _
-    c.before.before.before.before.refusal2.ensures c.before.before.refuse.ensures
-    c.before.refuse2.ensures c.refuse3.ensures
+    let r = to_z-of_z {c.before.before.before.before.before.before.before = w32} {z = c.whole_of.result} (record { sfits = c.whole_of.type_inv }) ∙ c.whole_of.ensures in
+    first_of a.s.now _ a.numbers.now a.marks.now a.d _ (c.source_bad.ensures a.d)
+    c.if-source_bad.false _ f.pre.0 f.pre.1 _ (to_z-of_z f.fits.d) _ r _ c.step_of_lem.ensures.1
+    _ c.marks_differ-unlike.ensures _ c.decimal_differs.ensures _ c.data_place-from.ensures _
+    c.any_far-out.ensures _ c.scale_bad.ensures _ _ _ _
+    c.refusal-none.ensures c.refuse.ensures
+    c.refuse-late.ensures c.refuse-2.ensures
 
 pub judge_spec : {M : Type 1} → statement M
 judge_spec =

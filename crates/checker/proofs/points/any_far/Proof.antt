@@ -20,77 +20,73 @@ use Rattle.checker.proofs.Far.{place-first, place-next, far-more}
 use Rattle.checker.proofs.points.any_far.Statement.{statement}
 use Rattle.checker.proofs.points.any_far.Tie as tie
 
-abbrev invariant-loop : tie.invariant-loop
+abbrev invariant-loop : tie.invariant-loop-i
 invariant-loop s numbers marks from n r e all chosen₀ held₀ out₀ at₀ i₀ chosen held out at i =
     (i ≤ length numbers)
     × ((length chosen ≡ 256)
     × ((length held ≡ 256)
     × ((at ≡ from + count (here marks) 0 i * n) × (out ≡ any_below (is_out s numbers marks from n (to_z w32 r) e) i))))
 
-abbrev decreases-loop : tie.decreases-loop
+abbrev decreases-loop : tie.decreases-loop-i
 decreases-loop s numbers marks from n r e all chosen₀ held₀ out₀ at₀ i₀ chosen held out at i = length numbers - i
 
-loop-holds : tie.Need-loop-init invariant-loop decreases-loop
+loop-holds : tie.Need-loop-i-init invariant-loop decreases-loop
 loop-holds c =
-    let a = c.before.before.before.args in
+    let a = c.args in
     (omega arith, (refl, (refl, (place-first a.marks.now a.from a.n, any_none _))))
 
-abbrev start : tie.After-next-few invariant-loop decreases-loop → tie.Start invariant-loop decreases-loop
+abbrev start : tie.After-next_few-c invariant-loop decreases-loop → tie.Start invariant-loop decreases-loop
 start n = n.before.before.before.before.before.before
 
-inside : (n : tie.After-next-few invariant-loop decreases-loop)
-    → n.before.before.loop.i + n.next-few.result ≤ length (start n).args.numbers.now
-inside n = omega (arith, n.next-few.ensures.0)
+inside : (n : tie.After-next_few-c invariant-loop decreases-loop)
+    → n.loop-i.i + n.next_few-c.result ≤ length (start n).args.numbers.now
+inside n = omega (arith, n.next_few-c.ensures.0)
 
-long : (n : tie.After-next-few invariant-loop decreases-loop)
-    → length (part (start n).args.numbers.now n.before.before.loop.i n.next-few.result (inside n))
-    ≡ n.next-few.result
-long n = part-long (start n).args.numbers.now n.before.before.loop.i n.next-few.result (inside n)
+long : (n : tie.After-next_few-c invariant-loop decreases-loop)
+    → length (part (start n).args.numbers.now n.loop-i.i n.next_few-c.result (inside n))
+    ≡ n.next_few-c.result
+long n = part-long (start n).args.numbers.now n.loop-i.i n.next_few-c.result (inside n)
 
-block-far-requires : tie.Need-block-far-requires invariant-loop decreases-loop
+block-far-requires : tie.Need-block_far-turn-requires invariant-loop decreases-loop
 block-far-requires c κs =
-    let n = c.before.before.before in
-    let l = n.before.before.loop in
-    let f = start n in
-    let few = n.next-few.ensures.1.0 in (
+    let l = c.loop-i in
+    let f = start c.before.before.before in
+    let few = c.next_few-c.ensures.1.0 in (
       (f.pre.0.0, f.pre.0.1.0),
       (
         λ h j k. present-all f.args.marks.now (length f.args.numbers.now)
-            (sym n.before.before.before.all-present.ensures ∙ h) (l.i + j) (omega (arith, k, long n, inside n)),
+            (sym c.all_present-all.ensures ∙ h) (l.i + j) (omega (arith, k, long c.before.before.before, inside c.before.before.before)),
         (
-          omega (arith, long n, inside n, f.pre.1.0),
+          omega (arith, long c.before.before.before, inside c.before.before.before, f.pre.1.0),
           (
-            omega (arith, long n, few, l.invariant.1.0),
-            (omega (arith, long n, few, l.invariant.1.1.0), omega (arith, long n, few)),
+            omega (arith, long c.before.before.before, few, l.invariant.1.0),
+            (omega (arith, long c.before.before.before, few, l.invariant.1.1.0), omega (arith, long c.before.before.before, few)),
           ),
         ),
       ),
     )
 
-loop-less : tie.Need-loop-smaller invariant-loop decreases-loop
+loop-less : tie.Need-loop-i-smaller invariant-loop decreases-loop
 loop-less c =
-    let n = c.before.before.before.before.before.before.before in
-    omega (arith, n.next-few.ensures.0, n.next-few.ensures.1.1 (omega arith))
+    omega (arith, c.next_few-c.ensures.0, c.next_few-c.ensures.1.1 (omega arith))
 
-loop-again : tie.Need-loop-preserved invariant-loop decreases-loop
+loop-again : tie.Need-loop-i-preserved invariant-loop decreases-loop
 loop-again c =
-    let b = c.before.before.before in
-    let n = b.before.before.before.before in
-    let l = n.before.before.loop in
+    let l = c.loop-i in
     let i = l.invariant.1.1.1 in
-    let a = (start n).args in
-    let p = (start n).requires in
-    let k = b.block-far.auto.1.1.1.1.1.1.1 in (
-      inside n,
+    let a = (start c.before.before.before.before.before.before.before).args in
+    let p = (start c.before.before.before.before.before.before.before).requires in
+    let k = c.block_far-turn.auto.chosen in (
+      inside c.before.before.before.before.before.before.before,
       (
         k.0 ∙ l.invariant.1.0,
         (
           k.1.0 ∙ l.invariant.1.1.0,
           (
-            place-next a.numbers.now a.marks.now a.from a.n l.i n.next-few.result (inside n) _ _
-                i.0 b.block-far.ensures.0 p.0.1.1 p.1.1 p.0.1.0,
+            place-next a.numbers.now a.marks.now a.from a.n l.i c.next_few-c.result (inside c.before.before.before.before.before.before.before) _ _
+                i.0 c.block_far-turn.ensures.0 p.0.1.1 p.1.1 p.0.1.0,
             far-more a.s.now a.numbers.now a.marks.now a.from a.n _ a.e l.i
-                n.next-few.result (inside n) _ i.0 _ _ i.1 b.block-far.ensures.1,
+                c.next_few-c.result (inside c.before.before.before.before.before.before.before) _ i.0 _ _ i.1 c.block_far-turn.ensures.1,
           ),
         ),
       ),
@@ -98,13 +94,12 @@ loop-again c =
 
 returns : tie.Need-returns invariant-loop decreases-loop
 returns c =
-    let l = c.before.loop in
-    let f = c.before.before.before.before.before in
-    let a = f.args in
+    let l = c.loop-i in
+    let a = c.args in
     let e : l.i ≡ length a.numbers.now = omega arith in
     l.invariant.1.1.1.1
     ∙ ap₂ (λ (x : ℕ) (y : ℤ). any_below (is_out a.s.now a.numbers.now a.marks.now a.from a.n y a.e)
-    x) e (to_z-of_z f.ranges.r)
+    x) e (to_z-of_z c.ranges.r)
 
 pub any_far_spec : {M : Type 1} → statement M
 any_far_spec =

@@ -8,12 +8,10 @@ use Rattle.checker.proofs.points.far_at.Tie as tie
 
 returns : tie.Need-returns
 returns c =
-    let u = c.before.before.before.before in
-    let f = u.before.before.before.before in
-    let a = f.args in (
-      all-reached a.at a.n a.c _ f.requires.0.1 f.requires.1.1.0 _ u.take_all.ensures.0,
-      far-held a.s.now a.numbers.now _ a.held.now a.at a.n a.c _ _ a.e (to_z-of_z f.ranges.r)
-          f.requires.0.1 f.requires.1.1.0 u.take_all.ensures.1 _ c.few-far.ensures,
+    let a = c.args in (
+      all-reached a.at a.n a.c _ c.requires.0.1 c.requires.1.1.0 _ c.take_all-taken.ensures.0,
+      far-held a.s.now a.numbers.now _ a.held.now a.at a.n a.c _ _ a.e (to_z-of_z c.ranges.r)
+          c.requires.0.1 c.requires.1.1.0 c.take_all-taken.ensures.1 _ c.few_far.ensures,
     )
 
 pub far_at_spec : {M : Type 1} → statement M

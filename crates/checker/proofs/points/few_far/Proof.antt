@@ -15,34 +15,33 @@ use Prim.Native.Nat.{ℕ, ◌≤◌, ◌-◌}
 use Rattle.checker.proofs.points.few_far.Statement.{statement}
 use Rattle.checker.proofs.points.few_far.Tie as tie
 
-abbrev invariant-loop : tie.invariant-loop
+abbrev invariant-loop : tie.invariant-loop-j
 invariant-loop numbers held c r e out₀ j₀ out j =
     (j ≤ c) × (out ≡ any_below (λ k. far_from (get_or numbers k (pos 0)) (to_z w32 r) (get_or held k 0) e) j)
 
-abbrev decreases-loop : tie.decreases-loop
+abbrev decreases-loop : tie.decreases-loop-j
 decreases-loop numbers held c r e out₀ j₀ out j = c - j
 
-loop-holds : tie.Need-loop-init invariant-loop decreases-loop
+loop-holds : tie.Need-loop-j-init invariant-loop decreases-loop
 loop-holds c = (omega arith, any_none _)
 
-loop-again : tie.Need-loop-preserved invariant-loop decreases-loop
+loop-again : tie.Need-loop-j-preserved invariant-loop decreases-loop
 loop-again c =
-    let l = c.before.before.before.before.loop in
-    let a = c.before.before.before.before.before.before.args in (
+    let l = c.loop-j in
+    let a = c.args in (
       omega arith,
-      few-next a.numbers.now a.held.now _ a.e l.j c.before.before.far-arg.given _ _
-          l.invariant.1 c.far.ensures,
+      few-next a.numbers.now a.held.now _ a.e l.j c.far-arg-1.given _ _
+          l.invariant.1 c.far-out.ensures,
     )
 
 returns : tie.Need-returns invariant-loop decreases-loop
 returns c =
-    let l = c.before.loop in
-    let f = c.before.before.before in
-    let a = f.args in
+    let l = c.loop-j in
+    let a = c.args in
     let e : l.j ≡ a.c = omega arith in
     l.invariant.1
     ∙ ap₂ (λ (x : ℕ) (y : ℤ). any_below
-    (λ k. far_from (get_or a.numbers.now k (pos 0)) y (get_or a.held.now k 0) a.e) x) e (to_z-of_z f.ranges.r)
+    (λ k. far_from (get_or a.numbers.now k (pos 0)) y (get_or a.held.now k 0) a.e) x) e (to_z-of_z c.ranges.r)
 
 pub few_far_spec : {M : Type 1} → statement M
 few_far_spec =

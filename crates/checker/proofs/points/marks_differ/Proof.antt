@@ -4,14 +4,14 @@ use borrow.Author.Rules.{rules}
 use Rattle.checker.proofs.points.marks_differ.Statement.{statement}
 use Rattle.checker.proofs.points.marks_differ.Tie as tie
 
-returns : tie.Need-returns
-returns c = without _ _ _ _ _ _ c.before.enum_told.given.1 _ c.all-present.ensures
+returns : tie.Need-returns-in-Without
+returns c = without _ _ _ _ _ _ c.in-Without.is _ c.all_present.ensures
 
-returns-2 : tie.Need-returns-2
-returns-2 c = carried _ _ _ _ _ _ c.before.before.enum-told2.given.1 _ c.unlike.ensures
+returns-2 : tie.Need-returns-in-Carried
+returns-2 c = carried _ _ _ _ _ _ c.in-Carried.is _ c.unlike.ensures
 
-returns-3 : tie.Need-returns-3
-returns-3 c = stored _ _ _ _ _ _ _ c.before.enum-told3.given.1 _ c.unlike2.ensures
+returns-3 : tie.Need-returns-in-Stored
+returns-3 c = stored _ _ _ _ _ _ _ c.in-Stored.is _ c.unlike-in-Stored.ensures
 
 pub marks_differ_spec : {M : Type 1} → statement M
 marks_differ_spec =

@@ -6,37 +6,27 @@ use native.Mathlib.Omega.{arith}
 use Rattle.checker.proofs.steps.far.Statement.{statement}
 use Rattle.checker.proofs.steps.far.Tie as tie
 
-mul-twice : tie.Need-overflow-mul-twice
+mul-twice : tie.Need-overflow_mul-x
 mul-twice c =
-    let p = c.before in
-    let b = p.before in
-    record { fits = omega (arith, product b.args.x p.power.result b.ranges.x.fits p.power.ensures.1) }
+    record { fits = omega (arith, product c.args.x c.power-step.result c.ranges.x.fits c.power-step.ensures.1) }
 
-add_twice : tie.Need-overflow-add-twice
+add_twice : tie.Need-overflow_add-lifted
 add_twice c =
-    let p = c.before in
-    let b = p.before in
-    record { fits = omega (arith, product b.args.x p.power.result b.ranges.x.fits p.power.ensures.1) }
+    record { fits = omega (arith, product c.args.x c.power-step.result c.ranges.x.fits c.power-step.ensures.1) }
 
-twice-requires : tie.Need-twice-requires
+twice-requires : tie.Need-twice-said-requires
 twice-requires c κs =
-    let p = c.before in
-    let b = p.before in
-    omega (arith, product b.args.x p.power.result b.ranges.x.fits p.power.ensures.1)
+    omega (arith, product c.args.x c.power-step.result c.ranges.x.fits c.power-step.ensures.1)
 
-add-result-2 : tie.Need-overflow-add-result-2
+add-result-2 : tie.Need-overflow_add-result-2
 add-result-2 c =
-    let p = c.before.before.before.before in
-    let b = p.before in
-    record { fits = omega (arith, product b.args.x p.power.result b.ranges.x.fits p.power.ensures.1) }
+    record { fits = omega (arith, product c.args.x c.power-step.result c.ranges.x.fits c.power-step.ensures.1) }
 
 returns : tie.Need-returns
 returns c =
-    let t = c.before.before in
-    let p = t.before.before in
-    let f = p.before.ranges in
-    out-by _ _ _ _ _ _ _ _ _ (c.before.lifted2.ensures.0 ∙ back _ f.v)
-    (t.before.lifted.ensures.0 ∙ back _ f.r) p.power.ensures.0 c.twice2.ensures t.twice.ensures
+    let f = c.ranges in
+    out-by _ _ _ _ _ _ _ _ _ (c.lifted-2.ensures.0 ∙ back _ f.v)
+    (c.lifted.ensures.0 ∙ back _ f.r) c.power-step.ensures.0 c.twice-given.ensures c.twice-said.ensures
 
 pub far_spec : {M : Type 1} → statement M
 far_spec =

@@ -9,9 +9,9 @@ use Rattle.checker.proofs.steps.scale_bad.Tie as tie
 
 returns : tie.Need-returns
 returns c =
-    let v = c.before.before.before.before.before.args.c.e.value in
+    let v = c.args.c.e.value in
     let e : to_z w32 (of_z w32 v) ≡ v = search rules in
-    scale-is _ _ _ e c.whole-bad.ensures
+    scale-is _ _ _ e c.whole_bad.ensures
 
 pub scale_bad_spec : {M : Type 1} → statement M
 scale_bad_spec = tie.close (tie.spec (λ c κs. search rules) returns)

@@ -7,10 +7,9 @@ use Rattle.field.proofs.lists.all_present.Tie as tie
 
 returns : tie.Need-returns
 returns c =
-    let taken = c.before.before.before.before.before.before in
-    let start = taken.before.before.before.before.before in (
-      unpack-done _ _ _ _ _ _ start.requires.0 start.requires.1 taken.take_all.ensures.1,
-      c.before.before.fill-all.ensures.1,
+    (
+      unpack-done _ _ _ _ _ _ c.requires.0 c.requires.1 c.take_all.ensures.1,
+      c.fill_all.ensures.1,
     )
 
 pub all_present_spec : {M : Type 1} → statement M

@@ -7,13 +7,10 @@ use Rattle.field.proofs.lists.some_present.Tie as tie
 
 returns : tie.Need-returns
 returns c =
-    let spread = c.before.before.before.before.before.before in
-    let taken = spread.before.before.before.before in
-    let start = taken.before.before.before.before.before.before in
-    let p = start.requires in (
-      some-values _ _ _ _ _ _ _ _ _ p.0 p.1.0 p.1.1.1 taken.take_all.ensures.1
-          spread.spread.ensures,
-      some-marks _ _ _ _ c.before.before.fill.ensures.1,
+    let p = c.requires in (
+      some-values _ _ _ _ _ _ _ _ _ p.0 p.1.0 p.1.1.1 c.take_all.ensures.1
+          c.spread.ensures,
+      some-marks _ _ _ _ c.fill.ensures.1,
     )
 
 pub some_present_spec : {M : Type 1} → statement M

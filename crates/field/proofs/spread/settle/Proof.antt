@@ -7,7 +7,7 @@ use Rattle.field.proofs.spread.settle.Statement.{statement}
 use Rattle.field.proofs.spread.settle.Tie as tie
 
 returns : tie.Need-returns
-returns c = let a = c.before.before.before.args in (refl, ap (set a.values.now a.i) c.times.ensures)
+returns c = let a = c.args in (refl, ap (set a.values.now a.i) c.times.ensures)
 
 pub settle_spec : {M : Type 1} → statement M
 settle_spec =

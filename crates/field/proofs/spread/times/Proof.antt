@@ -6,7 +6,7 @@ use borrow.Author.Rules.{rules}
 use Rattle.field.proofs.spread.times.Statement.{statement}
 use Rattle.field.proofs.spread.times.Tie as tie
 
-mul-result : tie.Need-overflow-mul-result
+mul-result : tie.Need-overflow_mul-result
 mul-result c = record { fits = times_fits c.args.v c.args.k c.ranges.v.fits (omega arith) }
 
 pub times_spec : {M : Type 1} → statement M

@@ -45,7 +45,7 @@ loop-again c =
     let f = c.pack_some in (
       omega arith,
       omega (arith, add-mul l.i 8 a.n),
-      f.auto.1.1.0
+      f.auto.out
           ∙ l.invariant.2,
       f.ensures a.out.now l.invariant.3,
     )

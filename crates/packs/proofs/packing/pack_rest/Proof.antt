@@ -54,7 +54,7 @@ loop-again c =
     let v = get_or a.vs.now l.i 0 in (
       omega arith,
       omega (arith, next l.i a.n),
-      c.placed.auto.0 ∙ l.invariant.2,
+      c.placed.auto.out ∙ l.invariant.2,
       λ d e.
           c.placed.ensures
           ∙ ap (λ (x : List ℕ). put_at x l.place a.n v) (l.invariant.3 d e)

@@ -73,7 +73,7 @@ loop-again c =
     let q = c.store.ensures in (
       omega arith,
       omega (arith, add-mul l.i 8 a.n),
-      c.store.auto.0 ∙ l.invariant.2,
+      c.store.auto.out ∙ l.invariant.2,
       ahead_turn a.n a.vs.now l.out l.i l.k _ c.requires.1.0 (omega arith) m.0 l.invariant.1
           c.eight.ensures _ l.invariant.3 q,
       ahead-kept l.out _ l.k (octets_for (length a.vs.now * a.n)) _ (omega arith) (omega arith) q ∙ l.invariant.4,
@@ -116,7 +116,7 @@ loop2-again c =
     let a = c.args in (
       omega arith,
       omega (arith, add-mul l.i 8 a.n),
-      c.store-in-loop-i.auto.0 ∙ l.invariant.2,
+      c.store-in-loop-i.auto.out ∙ l.invariant.2,
       λ d e.
           c.store-in-loop-i.ensures
           ∙ ap₂ (λ (x : List ℕ) (y : ℕ). number_at x l.k a.n y) (l.invariant.3 d e)

@@ -64,7 +64,7 @@ loop-again c =
       omega arith,
       subst (State a.vs.now a.n a.out.now a.i _ a.k _ _) (sym r)
           (state_turn a.n a.vs.now c.requires.1.0 (omega arith) a.out.now a.i q.out a.k q.p
-          q.all (a.i + q.j) q.invariant.2 (omega arith) _ f.auto.0 f.ensures),
+          q.all (a.i + q.j) q.invariant.2 (omega arith) _ f.auto.out f.ensures),
     )
 
 returns : tie.Need-returns invariant-loop decreases-loop

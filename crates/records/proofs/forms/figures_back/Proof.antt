@@ -6,21 +6,14 @@ use Rattle.records.proofs.forms.figures_back.Tie as tie
 
 returns : tie.Need-returns
 returns c =
-    let d7 = c in
-    let d6 = d7.before.before in
-    let d5 = d6.before.before in
-    let d4 = d5.before.before in
-    let d3 = d4.before.before in
-    let d2 = d3.before.before in
-    let d1 = d2.before.before in
-    let g = d1.before.before.args.g in
-    let la2 = kept g.la2 _ d1.plain.ensures (record { sfits = d1.before.struct_told.given.1.1.0.1 }) in
-    let lo2 = kept g.lo2 _ d2.plain2.ensures (record { sfits = d2.before.struct-told2.given.1.1.1.0.1 }) in
-    let lov = kept g.lov _ d3.plain3.ensures (record { sfits = d3.before.struct-told3.given.1.1.1.1.0.1 }) in
-    let latin1 = kept g.latin1 _ d4.plain4.ensures (record { sfits = d4.before.struct-told4.given.1.1.1.1.1.0.1 }) in
-    let latin2 = kept g.latin2 _ d5.plain5.ensures (record { sfits = d5.before.struct-told5.given.1.1.1.1.1.1.0.1 }) in
-    let la = kept g.pole_la _ d6.plain6.ensures (record { sfits = d6.before.struct-told6.given.1.1.1.1.1.1.1.0.1 }) in
-    let lo = kept g.pole_lo _ d7.plain7.ensures (record { sfits = d7.before.struct-told7.given.1.1.1.1.1.1.1.1.0.1 }) in
+    let g = c.args.g in
+    let la2 = kept g.la2 _ c.plain.ensures (record { sfits = c.struct_told-1.given.1.1.0.1 }) in
+    let lo2 = kept g.lo2 _ c.plain-2.ensures (record { sfits = c.struct_told-2-1.given.1.1.1.0.1 }) in
+    let lov = kept g.lov _ c.plain-3.ensures (record { sfits = c.struct_told-3-1.given.1.1.1.1.0.1 }) in
+    let latin1 = kept g.latin1 _ c.plain-4.ensures (record { sfits = c.struct_told-4-1.given.1.1.1.1.1.0.1 }) in
+    let latin2 = kept g.latin2 _ c.plain-5.ensures (record { sfits = c.struct_told-5-1.given.1.1.1.1.1.1.0.1 }) in
+    let la = kept g.pole_la _ c.plain-6.ensures (record { sfits = c.struct_told-6-1.given.1.1.1.1.1.1.1.0.1 }) in
+    let lo = kept g.pole_lo _ c.plain-7.ensures (record { sfits = c.struct_told-7-1.given.1.1.1.1.1.1.1.1.0.1 }) in
     λ i. record {
       kind = g.kind;
       rows = g.rows;

@@ -8,12 +8,10 @@ use Rattle.records.proofs.forms.grid_back.Tie as tie
 
 returns : tie.Need-returns
 returns c =
-    let d = c.before.before in
-    let a = d.before.before in
-    let g = a.before.before.args.g in
-    let la1 = kept g.la1 _ a.plain.ensures (record { sfits = a.before.struct_told.given.0.1 }) in
-    let lo1 = kept g.lo1 _ d.plain2.ensures (record { sfits = d.before.struct-told2.given.1.0.1 }) in
-    let y = c.geometry-of.ensures ∙ ap the_geometry_of c.before.figures-back.ensures in
+    let g = c.args.g in
+    let la1 = kept g.la1 _ c.plain.ensures (record { sfits = c.struct_told-1.given.0.1 }) in
+    let lo1 = kept g.lo1 _ c.plain-2.ensures (record { sfits = c.struct_told-2-1.given.1.0.1 }) in
+    let y = c.geometry_of.ensures ∙ ap the_geometry_of c.figures_back.ensures in
     λ i. record { ni = g.ni; nj = g.nj; la1 = la1 i; lo1 = lo1 i; flags = g.resolution; scan = g.scan; geometry = y i }
 
 pub grid_back_spec : {M : Type 1} → statement M

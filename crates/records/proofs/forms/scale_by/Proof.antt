@@ -8,8 +8,7 @@ use Rattle.records.proofs.forms.scale_by.Tie as tie
 
 returns : tie.Need-returns
 returns c =
-    let b = c.before in
-    ap {B = Scale} (λ (z : Signed). record { e = z; r = b.args.r }) (kept b.args.e _ c.plain.ensures b.ranges.e)
+    ap {B = Scale} (λ (z : Signed). record { e = z; r = c.args.r }) (kept c.args.e _ c.plain.ensures c.ranges.e)
 
 pub scale_by_spec : {M : Type 1} → statement M
 scale_by_spec = tie.close (tie.spec (λ c κs. search rules) returns)

@@ -6,21 +6,18 @@ use borrow.Author.Rules.{rules}
 use Rattle.writable.proofs.unlisted.judge_marks.Statement.{statement}
 use Rattle.writable.proofs.unlisted.judge_marks.Tie as tie
 
-returns : tie.Need-returns
+returns : tie.Need-returns-then-early-ne0
 unfolding mark_rows
 returns c =
-    let j = c.before.before in
-    let s = j.before.before.before.before.args.long in
-    own-early _ _ _ _ _ _ _ _ _ (j.judge-early.ensures (zeros s) (length-zeros s)) c.if1.true
+    let s = c.args.long in
+    own-early _ _ _ _ _ _ _ _ _ (c.judge_early-early.ensures (zeros s) (length-zeros s)) c.if-early-ne0.true
 
-returns-2 : tie.Need-returns-2
+returns-2 : tie.Need-returns
 unfolding mark_rows
 returns-2 c =
-    let i = c.before.before in
-    let j = i.before.before in
-    let s = j.before.before.before.before.args.long in
-    own-last _ _ _ _ _ _ _ _ _ (j.judge-early.ensures (zeros s) (length-zeros s)) i.if1.false _
-    c.before.marks-bad.ensures _ c.last.ensures
+    let s = c.args.long in
+    own-last _ _ _ _ _ _ _ _ _ (c.judge_early-early.ensures (zeros s) (length-zeros s)) c.if-early-ne0.false _
+    c.marks_bad.ensures _ c.last.ensures
 
 pub judge_marks_spec : {M : Type 1} → statement M
 judge_marks_spec =

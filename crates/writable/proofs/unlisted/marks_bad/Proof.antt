@@ -10,28 +10,24 @@ use borrow.Author.Rules.{rules}
 use Rattle.writable.proofs.unlisted.marks_bad.Statement.{statement}
 use Rattle.writable.proofs.unlisted.marks_bad.Tie as tie
 
-returns : tie.Need-returns
+returns : tie.Need-returns-then-lists_fit
 returns c =
-    let b = c.before.before.before.before in
-    let i = b.before.before.before in
-    let f = i.before in
-    let a = f.before.before.before.args in
-    let g = b.before.bitmap-given.result in
+    let a = c.args in
+    let g = c.bitmap_given-gaps.result in
     lists-read _ _ _ _ _
     (store_fit (zeros a.long) a.long a.n (eqb (length a.marks.now) a.n) true (length-zeros a.long)
-    (sym f.lists-fit.ensures ∙ i.if1.true)) _ _ b.before.before.grid-given.ensures
-    b.before.bitmap-given.ensures
-    _ (b.marks-off.ensures ∙ sym (zeros-marked g a.form.packing.bits a.long a.marks.now a.n)) _ _
-    c.before.before.before.has-grid.ensures c.before.before.choose.ensures
-    _ _ c.before.has-bitmap.ensures c.choose2.ensures
+    (sym c.lists_fit.ensures ∙ c.if-lists_fit.true)) _ _ c.grid_given-ground.ensures
+    c.bitmap_given-gaps.ensures
+    _ (c.marks_off.ensures ∙ sym (zeros-marked g a.form.packing.bits a.long a.marks.now a.n)) _ _
+    c.has_grid.ensures c.choose.ensures
+    _ _ c.has_bitmap.ensures c.choose-then-lists_fit.ensures
 
-returns-2 : tie.Need-returns-2
+returns-2 : tie.Need-returns
 returns-2 c =
-    let f = c.before in
-    let a = f.before.before.before.args in
+    let a = c.args in
     lists-short _ _ _ _ _
     (store_fit (zeros a.long) a.long a.n (eqb (length a.marks.now) a.n) false (length-zeros a.long)
-    (sym f.lists-fit.ensures ∙ c.if1.false))
+    (sym c.lists_fit.ensures ∙ c.if-lists_fit.false))
 
 pub marks_bad_spec : {M : Type 1} → statement M
 marks_bad_spec =
