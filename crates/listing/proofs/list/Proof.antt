@@ -54,7 +54,6 @@ list_spec =
     returns-2
     (λ c. search rules)
     (λ c. search rules)
-    (λ c. search rules)
     (λ c κs. search rules)
     (λ c κs. search rules)
     cast-result-2
