@@ -38,20 +38,15 @@ judged j =
     let a = b.args in
     j.judge_marks-refusal.ensures ∙ ap first (rows-marked a.pds.now a.form a.scale (record { number = a.number; octets = a.store.now }) (xs b) a.marks.now _ _ _ b.requires (sym (long b)))
 
-abbrev laid : tie.Else-frame-eq0 → tie.After-lay-frame
-laid e = e.before.before.before.before
-
 room : (e : tie.Else-frame-eq0)
-    → let b = start (laid e).before.before.before.before in Room b.args.form (xs b) b.args.marks.now (laid e).lay.result (length b.args.out.now)
+    → let b = start e.before.before.before.before.before.before.before.before in Room b.args.form (xs b) b.args.marks.now e.lay-frame.result (length b.args.out.now)
 room e =
-    let l = laid e in
-    let i = l.before.before in
-    let j = i.before.before in
+    let j = e.before.before.before.before.before.before.before.before in
     let b = start j in
     let a = b.args in
     room_of a.pds.now a.form a.scale a.number a.store.now (xs b) a.marks.now a.out.now _
-    j.before.before.before.grid-from.ensures _ j.before.before.the-grid.ensures _
-    j.before.points.ensures _ (judged j) i.if1.left _ l.lay.ensures.0 e.if-frame-eq0.false
+    e.grid_from-found.ensures _ e.the_grid.ensures _
+    e.points-n.ensures _ (judged j) e.if-refusal-ne0.false _ e.lay-frame.ensures.0 e.if-frame-eq0.false
 
 returns : tie.Need-returns-then-refusal-ne0
 returns c =
@@ -71,15 +66,14 @@ sub-end : tie.Need-overflow_sub-end
 sub-end c = omega (arith, (room c.before).end)
 
 sub-put-scaled : tie.Need-slice_bounds-put_scaled-count
-sub-put-scaled c = omega (arith, (room c.before).start, (laid c.before).lay.auto)
+sub-put-scaled c = omega (arith, (room c.before).start, c.lay-frame.auto.out)
 
 part-put-scaled-start : tie.Need-slice_bounds-put_scaled-start
-part-put-scaled-start c = omega (arith, (room c.before).start, (laid c.before).lay.auto)
+part-put-scaled-start c = omega (arith, (room c.before).start, c.lay-frame.auto.out)
 
 put-scaled-requires : tie.Need-put_scaled-requires
 put-scaled-requires c κs =
-    let l = laid c.before.before in
-    let b = start l.before.before.before.before in
+    let b = start c.before.before.before.before.before.before.before.before.before.before in
     let q = room c.before.before in (
       q.bits,
       (
@@ -88,20 +82,18 @@ put-scaled-requires c κs =
           q.present
               ∙ ap (count (mark_of b.args.marks.now) 0) (long b),
           omega
-              (arith, q.data_room, l.lay.kept, part_length l.lay.last.1.1.1.1.1.0 l.lay.result.at),
+              (arith, q.data_room, c.lay-frame.auto.out, part_length c.lay-frame.new.out c.lay-frame.result.at),
         ),
       ),
     )
 
 returns-3 : tie.Need-returns
 returns-3 c =
-    let l = laid c.before.before.before.before.before.before.before.before.before.before in
-    let i = l.before.before in
-    let j = i.before.before in
+    let j = c.before.before.before.before.before.before.before.before.before.before.before.before.before.before.before.before.before.before in
     let b = start j in
     let a = b.args in
-    let o = l.lay.last.1.1.1.1.1.0 in
-    let r = written a.pds.now a.form a.scale a.number a.store.now (xs b) a.marks.now a.out.now _ j.before.before.before.grid-from.ensures _ j.before.before.the-grid.ensures _ j.before.points.ensures _ (judged j) i.if1.left _ l.lay.ensures.0 c.if-frame-eq0.false _ l.lay.ensures.1 _ (c.put_scaled.ensures ∙ ap (λ (x : ℕ). packed_into a.form.packing.bits (gathered (mark_of a.marks.now) (value_of (xs b)) x) (take (length o - l.lay.result.at) (drop l.lay.result.at o))) (sym (long b))) _ c.put_four.ensures.1 in
+    let o = c.lay-frame.new.out in
+    let r = written a.pds.now a.form a.scale a.number a.store.now (xs b) a.marks.now a.out.now _ c.grid_from-found.ensures _ c.the_grid.ensures _ c.points-n.ensures _ (judged j) c.if-refusal-ne0.false _ c.lay-frame.ensures.0 c.if-frame-eq0.false _ c.lay-frame.ensures.1 _ (c.put_scaled.ensures ∙ ap (λ (x : ℕ). packed_into a.form.packing.bits (gathered (mark_of a.marks.now) (value_of (xs b)) x) (take (length o - c.lay-frame.result.at) (drop c.lay-frame.result.at o))) (sym (long b))) _ c.put_four.ensures.1 in
     (c.written-2.ensures ∙ r.0, r.1)
 
 pub write_scaled_spec : {M : Type 1} → statement M
