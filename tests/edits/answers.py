@@ -12,6 +12,8 @@ MISSHAPEN = re.compile(
 )
 # What it says of what another failure left.
 WAITS = re.compile(r"was not admitted|was rejected, w(?:as|ere) not checked|which (?:is|are) not proved")
+# A name that Rattle makes of a function's code, for its proof to use, has words of that code in it, so that an edit can take it away.
+RENAMED = r"module `Rattle\.{}\.proofs\.{}\.\w+` has no `[^`]+` that can be named from here"
 
 
 def read(path):
@@ -42,12 +44,23 @@ def answers(crates, crate, label):
     return found
 
 
-def function_at(crates, crate, file, old):
-    """The function whose code or contract holds a text, by its path in the crate; None outside all functions."""
+def is_renamed(crate, function, error):
+    """Whether an error is only about a name that Rattle made of the edited code."""
+    return bool(re.search(RENAMED.format(crate, re.escape(".".join(function))), error))
+
+
+def proof_of(place):
+    """The function whose proof a place in a file stands in, by its path in the crate; None outside them."""
+    m = re.match(r"(?:\./)?proofs/((?:\w+/)+)\w+\.antt:", place)
+    return tuple(m[1].rstrip("/").split("/")) if m else None
+
+
+def function_at(crates, crate, file, old, at=None):
+    """The function whose code or contract holds a text, or a place, by its path in the crate; None outside all functions."""
     if not file.startswith("src/"):
         return None
     text = read(os.path.join(crates, crate, file))
-    at = text.find(old)
+    at = text.find(old) if at is None else at
     heads = [h for h in re.finditer(r"^([ ]*)(?:pub(?:\(crate\))? )?(?:extern \"C\" )?fn (\w+)", text, re.M) if h.start() <= at]
     if not heads:
         return None

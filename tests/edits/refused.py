@@ -2,7 +2,8 @@
 
 Of each wrong answer (answers.py) it is demanded
 - that the function it changes is refused by its own proof: not proved, and not for want of a function that it calls;
-- that a fact is what is lost: no error of that proof is about a name, a form or a missing proof;
+- that a fact is what is lost: no error of that proof is about a name, a form or a missing proof. Where the edit takes away a name that Rattle
+  made of the code, another error is about a fact;
 - that the edit refuses no other function than those it changes and those that call them.
 An answer that changes a contract is one of the function whose contract it is. An answer that changes a definition changes no function: of
 it, that some proof lost a fact.
@@ -13,17 +14,17 @@ import os
 import re
 import sys
 
-from answers import MISSHAPEN, WAITS, answers, edits, function_at, read
+from answers import MISSHAPEN, WAITS, answers, edits, function_at, is_renamed, proof_of, read
 
 root, logs, only = sys.argv[1], sys.argv[2], sys.argv[3:]
 crates = os.path.join(root, "crates")
 wrong = []
 
 
-def own_errors(log, function):
-    """The errors in a function's own proof that are not only about what another failure left."""
-    folder = "proofs/" + "/".join(function) + "/"
-    return [line for line in log if line.removeprefix("./").startswith(folder) and ": error: " in line and not WAITS.search(line)]
+def own_errors(crate, log, function):
+    """The errors in a function's own proof that are not only about what another failure left, nor about a name that the edit changed."""
+    errors = [line for line in log if proof_of(line) == function and ": error: " in line and not WAITS.search(line)]
+    return [line for line in errors if not is_renamed(crate, function, line)]
 
 
 def judge(crate, label):
@@ -53,7 +54,7 @@ def judge(crate, label):
         for function in functions:
             name = "::".join(function)
             reply = said.get(function, "not judged")
-            errors = own_errors(log, function)
+            errors = own_errors(crate, log, function)
             by_itself = reply.startswith("not proved") and errors or reply.startswith("no proof") and "did not prove" in reply
             if not by_itself:
                 wrong.append(f"{edit}: {answer.name}: {name} is not refused by its own proof: {reply}")
