@@ -7,7 +7,7 @@ returns : tie.Need-returns
 returns c =
     rw (
       c.place_record.ensures,
-      c.spot_of_lem.ensures,
+      c.spot_of.ensures,
       c.shape_of.ensures,
       c.grid_back.ensures,
     )
