@@ -41,7 +41,7 @@ def public(crate):
 
 
 STATEMENT = re.compile(
-    r"^pub «?(?P<name>[\w]+)»? : (?:Tight|TightBy) contracts\.(?P<path>[\w.]+)\.ended(?P<seen> \(.*\))? λ M\. contracts\.(?P<again>[\w.]+)\.clauses$", re.M
+    r"^pub «?(?P<name>[\w]+)»? : (?:Tight|TightBy) contracts\.(?P<path>[\w.]+)\.ended(?P<seen> \(.*\))? λ M 𝓤 𝓛\. contracts\.(?P<again>[\w.]+)\.clauses 𝓛$", re.M
 )
 
 
@@ -52,7 +52,7 @@ def stated():
     found = {}
     for module in modules:
         text = read(folder, module + ".antt")
-        use = re.search(r"(?m)^use Rattle\.(\w+)\.proofs as contracts$", text)
+        use = re.search(r"(?m)^use Rattle\.(\w+)\.specs\.contracts as contracts$", text)
         for s in STATEMENT.finditer(text):
             assert use and s["path"] == s["again"] and s["path"].split(".")[-1] == s["name"], f"tight: {module}: {s['name']} is over another contract"
             assert ("TightBy" in s[0]) == bool(s["seen"]), f"tight: {module}: {s['name']} does not say what is seen"
