@@ -68,13 +68,18 @@ def functions(crate):
     return {f["name"]: f for f in FUNCTION.finditer(read(crates, crate, "src", "lib.rt"))}
 
 
+def plain(text):
+    """A text of code without its layout."""
+    return re.sub(r",?\s*([()])\s*", r"\1", " ".join(text.split()))
+
+
 def is_same(crate, below, name):
     """Whether a static library's function is one call of the function of that name in one of the crates below, with its head and clauses."""
     own = functions(crate).get(name)
     for lib in below:
         its = own and functions(lib).get(name)
         arguments = its and ", ".join(re.findall(r"(\w+):", its["given"]))
-        if its and own["head"] == its["head"] and own["body"].split() == f"{lib}::{name}({arguments})".split():
+        if its and plain(own["head"]) == plain(its["head"]) and plain(own["body"]) == plain(f"{lib}::{name}({arguments})"):
             return True
     return False
 
