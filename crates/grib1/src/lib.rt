@@ -1,6 +1,8 @@
 // The codec for C: each function is one call below, with its answer as a record of plain numbers. All total: no number
 // that C can pass is without a meaning, and all buffers are lent by the caller. include/grib1.h declares the records
 // and functions for C.
+#![tactic(auto)]
+
 ghost use Rattle.std.specs.Prelude.{◌≡◌};
 ghost use Rattle.rules.specs.Chart.{the_row_long, charted, pointed};
 ghost use Rattle.rules.specs.Grid.{shape_of};
