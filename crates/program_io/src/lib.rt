@@ -1,0 +1,47 @@
+// What the programs share of reading and writing. A reader that fails is one that has ended, and what cannot be
+// written is left out, so that a program says all that it still can.
+#![tactic(auto)]
+
+ghost use Rattle.std.specs.Prelude.{◌≤◌, length};
+
+use std::io::Read;
+
+// Reads until the room is full, the input ends or a read fails: how many octets stand first in the room. No contract
+// can say which octets come.
+pub fn read_full<R: Read>(from: &mut R, room: &mut [u8]) -> usize
+    ensures { result ≤ length room.new }
+{
+    let mut done: usize = 0;
+    while done < room.len() {
+        match from.read(&mut room[done..]) {
+            Ok(0) => return done,
+            Ok(n) => done += n,
+            Err(_) => return done,
+        }
+    }
+    done
+}
+
+// Reads on into the places of the room from one up to another, where the room has them.
+pub fn load<R: Read>(from: &mut R, room: &mut [u8], start: usize, end: usize) {
+    if start <= end {
+        if end <= room.len() {
+            read_full(from, &mut room[start..end]);
+        }
+    }
+}
+
+// Writes octets.
+pub fn write_all<P: Print>(out: &P, text: &[u8]) {
+    let _ = out.write_all(text);
+}
+
+// Writes a number in decimal digits.
+pub fn write_decimal<P: Print>(out: &P, n: u64) {
+    let _ = out.print(n);
+}
+
+// Writes a word of 32 bits as eight hexadecimal digits.
+pub fn write_hex<P: Print>(out: &P, n: u32) {
+    let _ = print!(out; "{n:08x}");
+}
