@@ -4,11 +4,13 @@
 
 ghost use Rattle.std.specs.Prelude.{◌≤◌, length};
 
+use std::fs::File;
 use std::io::Read;
+use std::rt::Files;
 
 // Reads until the room is full, the input ends or a read fails: how many octets stand first in the room. No contract
 // can say which octets come.
-pub fn read_full<R: Read>(from: &mut R, room: &mut [u8]) -> usize
+pub fn read_full(from: &mut impl Read, room: &mut [u8]) -> usize
     ensures { result ≤ length room.new }
 {
     let mut done: usize = 0;
@@ -23,7 +25,7 @@ pub fn read_full<R: Read>(from: &mut R, room: &mut [u8]) -> usize
 }
 
 // Reads on into the places of the room from one up to another, where the room has them.
-pub fn load<R: Read>(from: &mut R, room: &mut [u8], start: usize, end: usize) {
+pub fn load(from: &mut impl Read, room: &mut [u8], start: usize, end: usize) {
     if start <= end {
         if end <= room.len() {
             read_full(from, &mut room[start..end]);
@@ -31,17 +33,28 @@ pub fn load<R: Read>(from: &mut R, room: &mut [u8], start: usize, end: usize) {
     }
 }
 
+// The file of that name, opened for reading. Where it cannot be, its name and why are written to the standard error.
+pub fn open_read<R: Files + Eprint>(rt: &R, path: &str) -> Option<R::File> {
+    match File::open(rt, path) {
+        Ok(file) => Some(file),
+        Err(e) => {
+            let _ = eprintln!(rt; "{path}: {e}");
+            None
+        }
+    }
+}
+
 // Writes octets.
-pub fn write_all<P: Print>(out: &P, text: &[u8]) {
-    let _ = out.write_all(text);
+pub fn write_all(rt: &impl Print, text: &[u8]) {
+    let _ = rt.write_all(text);
 }
 
 // Writes a number in decimal digits.
-pub fn write_decimal<P: Print>(out: &P, n: u64) {
-    let _ = out.print(n);
+pub fn write_decimal(rt: &impl Print, n: u64) {
+    let _ = rt.print(n);
 }
 
 // Writes a word of 32 bits as eight hexadecimal digits.
-pub fn write_hex<P: Print>(out: &P, n: u32) {
-    let _ = print!(out; "{n:08x}");
+pub fn write_hex(rt: &impl Print, n: u32) {
+    let _ = print!(rt; "{n:08x}");
 }

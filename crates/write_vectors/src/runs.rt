@@ -1,24 +1,17 @@
 // A list in a file: in three octets how many octets its runs have, then the runs. A run has in three octets how many
 // elements, then the element.
+use program_io::load;
+use std::io::Read;
 
 // Octets that the runs of one list may have.
 const RUNS: usize = 7168;
 
-// Reads the file on into the places of the room from one up to another, where the room has them.
-pub(crate) fn load(fd: i32, room: &mut [u8], from: usize, to: usize) {
-    if from <= to {
-        if to <= room.len() {
-            io::read_full(fd, &mut room[from..to]);
-        }
-    }
-}
-
 // Reads a list's runs: how many octets they have.
-fn load_runs(fd: i32, runs: &mut [u8]) -> usize {
+fn load_runs(file: &mut impl Read, runs: &mut [u8]) -> usize {
     let mut head = [0u8; 3];
-    load(fd, &mut head, 0, 3);
+    load(file, &mut head, 0, 3);
     let n = octets::three(&head, 0, 1) as usize;
-    load(fd, runs, 0, n);
+    load(file, runs, 0, n);
     n
 }
 
@@ -83,15 +76,15 @@ fn spread_numbers(runs: &[u8], n: usize, room: &mut [u32]) -> usize {
 }
 
 // Puts a list of octets into the room: how many it has.
-pub(crate) fn load_octets(fd: i32, room: &mut [u8]) -> usize {
+pub(crate) fn load_octets(file: &mut impl Read, room: &mut [u8]) -> usize {
     let mut runs = [0u8; RUNS];
-    let n = load_runs(fd, &mut runs);
+    let n = load_runs(file, &mut runs);
     spread_octets(&runs, n, room)
 }
 
 // Puts a list of numbers into the room: how many it has.
-pub(crate) fn load_numbers(fd: i32, room: &mut [u32]) -> usize {
+pub(crate) fn load_numbers(file: &mut impl Read, room: &mut [u32]) -> usize {
     let mut runs = [0u8; RUNS];
-    let n = load_runs(fd, &mut runs);
+    let n = load_runs(file, &mut runs);
     spread_numbers(&runs, n, room)
 }
