@@ -2,7 +2,7 @@
 // then what line.rt says.
 //
 // A file has octets 1-3 how many vectors it has, and the vectors. A vector has its name's length in one octet, its
-// name, 51 octets of fields (fields.rt) and four lists (runs.rt): the octets of the PDS or the message, the lent
+// name, 83 octets of fields (fields.rt) and four lists (lists.rt): the octets of the PDS or the message, the lent
 // bitmap's, the values or the source's numbers, the marks.
 #![tactic(auto)]
 
@@ -10,13 +10,13 @@ mod back; // back.rt: whether reading gives back what was written
 mod calls; // calls.rt: the three calls
 mod fields; // fields.rt: a vector's fields
 mod line; // line.rt: what is printed
+mod lists; // lists.rt: a vector's lists
 mod output; // output.rt: what the lent output holds before and after
-mod runs; // runs.rt: a vector's lists
 mod spans; // spans.rt: parts of lists
 
 use crate::calls::run;
 use crate::fields::{FIELDS, room};
-use crate::runs::{load_numbers, load_octets};
+use crate::lists::{load_numbers, load_octets};
 use crate::spans::{numbers_part, octets_part};
 use program_io::{load, open_read, write_all};
 use std::io::Read;
