@@ -11,7 +11,7 @@ use std::io::Read;
 // One octet more than a message may have, so that a longer input is seen to be longer.
 const INPUT: usize = LISTED_MOST + 1;
 
-// Answers how many octets came. No contract can say what is read or written: the work is `list`'s.
+// Answers how many octets came. No contract can say what is written: the work is `list`'s.
 pub fn print_from(rt: &impl Print, from: &mut impl Read) -> usize
     ensures { result ≤ 32769 }
 {

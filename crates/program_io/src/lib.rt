@@ -2,16 +2,18 @@
 // written is left out, so that a program says all that it still can.
 #![tactic(auto)]
 
-ghost use Rattle.std.specs.Prelude.{◌≤◌, length};
+ghost use Rattle.std.specs.Prelude.{◌≤◌, length, take};
+ghost use Rattle.std.specs.Io.KnownBytes.{Consumes};
 
 use std::fs::File;
 use std::io::Read;
 use std::rt::Files;
 
-// Reads until the room is full, the input ends or a read fails: how many octets stand first in the room. No contract
-// can say which octets come.
-pub fn read_full(from: &mut impl Read, room: &mut [u8]) -> usize
-    ensures { result ≤ length room.new }
+// Reads until the room is full, the input ends or a read fails: how many octets stand first in the room, those that
+// the reader gave.
+pub fn read_full<R: Read>(from: &mut R, room: &mut [u8]) -> usize
+    ensures within { result ≤ length room.new }
+    ensures octets { Consumes (R.remaining from.old) (R.remaining from.new) (take result room.new) }
 {
     let mut done: usize = 0;
     while done < room.len() {
