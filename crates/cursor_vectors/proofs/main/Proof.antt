@@ -4,10 +4,10 @@ use Prim.Native.Nat.{◌≤◌, ◌-◌}
 use Rattle.cursor_vectors.proofs.main.Statement.{statement}
 use Rattle.cursor_vectors.proofs.main.Tie as tie
 
-abbrev invariant-loop : tie.invariant-loop
+abbrev invariant-loop : tie.invariant-loop-i
 invariant-loop count i₀ i = 0 ≤ i
 
-abbrev decreases-loop : tie.decreases-loop
+abbrev decreases-loop : tie.decreases-loop-i
 decreases-loop count i₀ i = count - i
 
 pub main_spec : {M : Type 1} → statement M

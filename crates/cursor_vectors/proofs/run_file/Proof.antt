@@ -4,10 +4,10 @@ use Prim.Native.Nat.{◌≤◌, ◌-◌}
 use Rattle.cursor_vectors.proofs.run_file.Statement.{statement}
 use Rattle.cursor_vectors.proofs.run_file.Tie as tie
 
-abbrev invariant-loop : tie.invariant-loop
+abbrev invariant-loop : tie.invariant-loop-i
 invariant-loop fd count i₀ i = 0 ≤ i
 
-abbrev decreases-loop : tie.decreases-loop
+abbrev decreases-loop : tie.decreases-loop-i
 decreases-loop fd count i₀ i = count - i
 
 pub run_file_spec : {M : Type 1} → statement M

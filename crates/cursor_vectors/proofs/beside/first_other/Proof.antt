@@ -4,10 +4,10 @@ use Prim.Native.Nat.{◌≤◌, ◌-◌}
 use Rattle.cursor_vectors.proofs.beside.first_other.Statement.{statement}
 use Rattle.cursor_vectors.proofs.beside.first_other.Tie as tie
 
-abbrev invariant-loop : tie.invariant-loop
+abbrev invariant-loop : tie.invariant-loop-k
 invariant-loop s lent store index g n values marks k₀ k = 0 ≤ k
 
-abbrev decreases-loop : tie.decreases-loop
+abbrev decreases-loop : tie.decreases-loop-k
 decreases-loop s lent store index g n values marks k₀ k = n - k
 
 pub first_other_spec : {M : Type 1} → statement M

@@ -5,10 +5,10 @@ use lib.ListN.{length}
 use Rattle.cursor_vectors.proofs.entries.entries_kept.Statement.{statement}
 use Rattle.cursor_vectors.proofs.entries.entries_kept.Tie as tie
 
-abbrev invariant-loop : tie.invariant-loop
+abbrev invariant-loop : tie.invariant-loop-i
 invariant-loop index n i₀ i = 0 ≤ i
 
-abbrev decreases-loop : tie.decreases-loop
+abbrev decreases-loop : tie.decreases-loop-i
 decreases-loop index n i₀ i = length index - i
 
 pub entries_kept_spec : {M : Type 1} → statement M

@@ -6,13 +6,13 @@ use lib.ListN.{length, length-set}
 use Rattle.cursor_vectors.proofs.entries.fill_entries.Statement.{statement}
 use Rattle.cursor_vectors.proofs.entries.fill_entries.Tie as tie
 
-abbrev invariant-loop : tie.invariant-loop
+abbrev invariant-loop : tie.invariant-loop-i
 invariant-loop index₀ i₀ index i = length index ≡ length index₀
 
-abbrev decreases-loop : tie.decreases-loop
+abbrev decreases-loop : tie.decreases-loop-i
 decreases-loop index₀ i₀ index i = length index₀ - i
 
-loop-again : tie.Need-loop-preserved invariant-loop decreases-loop
+loop-again : tie.Need-loop-i-preserved invariant-loop decreases-loop
 loop-again c = simp length-set (search rules)
 
 pub fill_entries_spec : {M : Type 1} → statement M

@@ -6,13 +6,13 @@ use lib.ListN.{length, length-set}
 use Rattle.cursor_vectors.proofs.entries.spread.Statement.{statement}
 use Rattle.cursor_vectors.proofs.entries.spread.Tie as tie
 
-abbrev invariant-loop : tie.invariant-loop
+abbrev invariant-loop : tie.invariant-loop-p
 invariant-loop octets n room₀ at₀ p₀ room at p = length room ≡ length room₀
 
-abbrev decreases-loop : tie.decreases-loop
+abbrev decreases-loop : tie.decreases-loop-p
 decreases-loop octets n room₀ at₀ p₀ room at p = n - p
 
-loop-again : tie.Need-loop-preserved invariant-loop decreases-loop
+loop-again : tie.Need-loop-p-preserved invariant-loop decreases-loop
 loop-again c = simp length-set (search rules)
 
 pub spread_spec : {M : Type 1} → statement M

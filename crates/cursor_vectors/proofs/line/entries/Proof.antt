@@ -4,10 +4,10 @@ use Prim.Native.Nat.{◌≤◌, ◌-◌}
 use Rattle.cursor_vectors.proofs.line.entries.Statement.{statement}
 use Rattle.cursor_vectors.proofs.line.entries.Tie as tie
 
-abbrev invariant-loop : tie.invariant-loop
+abbrev invariant-loop : tie.invariant-loop-i
 invariant-loop index n i₀ i = 0 ≤ i
 
-abbrev decreases-loop : tie.decreases-loop
+abbrev decreases-loop : tie.decreases-loop-i
 decreases-loop index n i₀ i = n - i
 
 pub entries_spec : {M : Type 1} → statement M
