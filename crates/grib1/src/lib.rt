@@ -58,12 +58,7 @@ pub fn grib1_read(
 }
 
 // Which part of the message its section 0 to 5 is.
-pub fn grib1_section(
-    message: &[u8],
-    number: u16,
-    store: &[u8],
-    section: u32,
-) -> PartRecord
+pub fn grib1_section(message: &[u8], number: u16, store: &[u8], section: u32) -> PartRecord
     ensures { result ≡ the_part_record (section_of message.now (lent_as number store.now) section) }
 {
     part_record(handed_back::section_part(message, number, store, section))
@@ -105,24 +100,14 @@ pub fn grib1_row(grid: GridRecord, row: u32) -> u32
 }
 
 // The data number of a grid point of a message.
-pub fn grib1_data_number(
-    message: &[u8],
-    number: u16,
-    store: &[u8],
-    point: u32,
-) -> DataRecord
+pub fn grib1_data_number(message: &[u8], number: u16, store: &[u8], point: u32) -> DataRecord
     ensures { result ≡ the_data_record (numbering_of message.now (lent_as number store.now) point) }
 {
     data_record(data_numbers::data_number(message, number, store, GridPoint(point)))
 }
 
 // Fills the front of a lent index for a message: the ones before each group of grid points.
-pub fn grib1_index(
-    message: &[u8],
-    number: u16,
-    store: &[u8],
-    index: &mut [u32],
-) -> IndexedRecord
+pub fn grib1_index(message: &[u8], number: u16, store: &[u8], index: &mut [u32]) -> IndexedRecord
     ensures value { result ≡
         the_indexed_record (index_of message.now (lent_as number store.now) index.old) }
     ensures index_after { index.new ≡
