@@ -1,5 +1,7 @@
 // The two loops under reading and writing, for C to time alone beside the whole codec (`bare_loops_c`, bench/). Nothing
 // else uses this.
+#![tactic(auto)]
+
 ghost use Rattle.std.specs.Prelude.{◌≡◌, length};
 ghost use Rattle.runs.specs.Take.{unpack_fits, unpacked};
 ghost use Rattle.packs.specs.Pack.{pack_fits, packed};

@@ -1,5 +1,7 @@
 // The codec for C: each function is one call below, with its answer as a record of plain numbers. All total: no number
 // that C can pass is without a meaning, and all buffers are lent by the caller. C calls them through `grib1_c`.
+#![tactic(auto)]
+
 ghost use Rattle.std.specs.Prelude.{◌≡◌};
 ghost use Rattle.rules.specs.Chart.{the_row_long, charted, pointed};
 ghost use Rattle.rules.specs.Grid.{shape_of};
