@@ -40,7 +40,7 @@ fold_ext f z u v (suc n) h = ap₂ f (h n (omega arith)) (fold_ext f z u v n (λ
 
 -- P holds of the points passed and of what is found; Q of each number held
 module _ (f : ℕ → ℕ) (b : Bits f) (v : ℕ → ℤ) (g : ℤ → ℤ → ℤ) (z : ℤ) (Q : ℤ → Type 0) (P : ℕ → ℤ → Type 0)
-    (in-it : (j : ℕ) (w : ℤ) → f j ≡ 1 → Q (v j) → P j w → P (j + 1) (g (v j) w)) (out_of_lem : (j : ℕ) (w : ℤ) → (f j ≡ 1 → ⊥) → P j w → P (j + 1) w) (begin : P 0 z) where
+    (in-it : (j : ℕ) (w : ℤ) → f j ≡ 1 → Q (v j) → P j w → P (j + 1) (g (v j) w)) (left_out : (j : ℕ) (w : ℤ) → (f j ≡ 1 → ⊥) → P j w → P (j + 1) w) (begin : P 0 z) where
   abbrev at : ℕ → ℕ → ℤ
   at n k = get_or (gathered_of f v n) k (pos 0)
 
@@ -79,7 +79,7 @@ module _ (f : ℕ → ℕ) (b : Bits f) (v : ℕ → ℤ) (g : ℤ → ℤ → �
     | no h ↦
         let c = count_none b n h in
         subst (P (n + 1)) (sym (found-out n h))
-        (out_of_lem n (found n) h
+        (left_out n (found n) h
         (so_far (λ k l. subst (λ (xs : List ℤ). Q (get_or xs k (pos 0))) (gathered-out f v n h)
         (q k (omega (arith, c))))))
   ]
@@ -98,7 +98,7 @@ module _ (numbers : List ℤ) (marks : List ℕ) (i c : ℕ) (l : i + c ≤ leng
     (g : ℤ → ℤ → ℤ) (Q : ℤ → Type 0) (P : ℕ → ℤ → Type 0)
     (in-it : (k : ℕ) (w : ℤ) → mark_of marks k ≡ 1 → Q (get_or numbers k (pos 0)) → P k w
     → P (k + 1) (g (get_or numbers k (pos 0)) w))
-    (out_of_lem : (k : ℕ) (w : ℤ) → (mark_of marks k ≡ 1 → ⊥) → P k w → P (k + 1) w) where
+    (left_out : (k : ℕ) (w : ℤ) → (mark_of marks k ≡ 1 → ⊥) → P k w → P (k + 1) w) where
   abbrev number : ℕ → ℤ
   number j = get_or numbers (i + j) (pos 0)
 
@@ -129,7 +129,7 @@ module _ (numbers : List ℤ) (marks : List ℕ) (i c : ℕ) (l : i + c ≤ leng
       (fold_gathered (here_from marks i) (here-from-bits marks i) number g z Q (λ j. P (i + j))
       (λ j x t r s. subst (λ (y : ℕ). P y (g (number j) x)) (sym (one_on j))
       (in-it (i + j) x (here-marked marks (i + j) t) r s))
-      (λ j x t s. subst (λ (y : ℕ). P y x) (sym (one_on j)) (out_of_lem (i + j) x (λ o. t (there j o)) s))
+      (λ j x t s. subst (λ (y : ℕ). P y x) (sym (one_on j)) (left_out (i + j) x (λ o. t (there j o)) s))
       (subst (λ (y : ℕ). P y z) (sym (add-zero i)) p)
       c (λ k r. let s = subst (λ (y : ℕ). k < y) (sym many) r in subst Q (held_at k s) (q k s)))
     where

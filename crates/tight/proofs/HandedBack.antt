@@ -9,7 +9,7 @@ use Rattle.rules.specs.declared.{Part.Part}
 use Rattle.rules.specs.Places.{IsPart}
 use Rattle.rules.specs.Bitmap.{Lent, InForce, IsInForce}
 use Rattle.rules.specs.Reading.{bitmap_of}
-use Rattle.handed_back.proofs as contracts
+use Rattle.handed_back.specs.contracts as contracts
 use Rattle.tight.specs.Tight.{Tight, TightBy, apparent}
 use Rattle.tight.proofs.Laws.{by_clause, by-reply}
 
@@ -28,16 +28,16 @@ force-one : (message store : Bor (List ℕ)) (f : InForce) (x y : Bor (List ℕ)
     → IsInForce y message store f → apparent x ≡ apparent y
 force-one message store f = of_two f.stored message store f.part
 
-pub section_part : Tight contracts.section_part.ended λ M. contracts.section_part.clauses
+pub section_part : Tight contracts.section_part.ended λ M 𝓤 𝓛. contracts.section_part.clauses 𝓛
 section_part k g h x y ws vs = by-reply k refl
 
-pub section : TightBy contracts.section.ended (λ κs. apparent) λ M. contracts.section.clauses
+pub section : TightBy contracts.section.ended (λ κs. apparent) λ M 𝓤 𝓛. contracts.section.clauses 𝓛
 section k g h x y ws vs = by_clause k λ p q. (part-one _ _ x y p q, refl)
 
-pub force_part : Tight contracts.force_part.ended λ M. contracts.force_part.clauses
+pub force_part : Tight contracts.force_part.ended λ M 𝓤 𝓛. contracts.force_part.clauses 𝓛
 force_part k g h x y ws vs = by-reply k refl
 
-pub in_force : TightBy contracts.in_force.ended (λ κs. apparent) λ M. contracts.in_force.clauses
+pub in_force : TightBy contracts.in_force.ended (λ κs. apparent) λ M 𝓤 𝓛. contracts.in_force.clauses 𝓛
 in_force k g h x y ws vs =
     let message : Bor (List ℕ) = k.passed.0 in
     let store : Bor (List ℕ) = k.passed.1.1.0 in

@@ -1,11 +1,11 @@
 -- The contracts of `message` are tight.
 use mathlib.Core.Path.{refl}
-use Rattle.message.proofs as contracts
+use Rattle.message.specs.contracts as contracts
 use Rattle.tight.specs.Tight.{Tight}
 use Rattle.tight.proofs.Laws.{by-reply}
 
-pub refused : Tight contracts.refused.ended λ M. contracts.refused.clauses
+pub refused : Tight contracts.refused.ended λ M 𝓤 𝓛. contracts.refused.clauses 𝓛
 refused k g h x y ws vs = by-reply k refl
 
-pub header : Tight contracts.header.ended λ M. contracts.header.clauses
+pub header : Tight contracts.header.ended λ M 𝓤 𝓛. contracts.header.clauses 𝓛
 header k g h x y ws vs = by-reply k refl

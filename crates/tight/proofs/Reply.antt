@@ -1,26 +1,26 @@
 -- The contracts of `reply` are tight.
 use mathlib.Core.Path.{refl}
-use Rattle.reply.proofs as contracts
+use Rattle.reply.specs.contracts as contracts
 use Rattle.tight.specs.Tight.{Tight}
 use Rattle.tight.proofs.Laws.{by-reply}
 
-pub refusal_at : Tight contracts.refusal_at.ended λ M. contracts.refusal_at.clauses
+pub refusal_at : Tight contracts.refusal_at.ended λ M 𝓤 𝓛. contracts.refusal_at.clauses 𝓛
 refusal_at k g h x y ws vs = by-reply k refl
 
-pub refusal : Tight contracts.refusal.ended λ M. contracts.refusal.clauses
+pub refusal : Tight contracts.refusal.ended λ M 𝓤 𝓛. contracts.refusal.clauses 𝓛
 refusal k g h x y ws vs = by-reply k refl
 
-pub refuse_at : Tight contracts.refuse_at.ended λ M. contracts.refuse_at.clauses
+pub refuse_at : Tight contracts.refuse_at.ended λ M 𝓤 𝓛. contracts.refuse_at.clauses 𝓛
 refuse_at k g h x y ws vs = by-reply k refl
 
-pub refuse : Tight contracts.refuse.ended λ M. contracts.refuse.clauses
+pub refuse : Tight contracts.refuse.ended λ M 𝓤 𝓛. contracts.refuse.clauses 𝓛
 refuse k g h x y ws vs = by-reply k refl
 
-pub last : Tight contracts.last.ended λ M. contracts.last.clauses
+pub last : Tight contracts.last.ended λ M 𝓤 𝓛. contracts.last.clauses 𝓛
 last k g h x y ws vs = by-reply k refl
 
-pub unwritten : Tight contracts.unwritten.ended λ M. contracts.unwritten.clauses
+pub unwritten : Tight contracts.unwritten.ended λ M 𝓤 𝓛. contracts.unwritten.clauses 𝓛
 unwritten k g h x y ws vs = by-reply k refl
 
-pub written : Tight contracts.written.ended λ M. contracts.written.clauses
+pub written : Tight contracts.written.ended λ M 𝓤 𝓛. contracts.written.clauses 𝓛
 written k g h x y ws vs = by-reply k refl

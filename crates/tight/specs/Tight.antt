@@ -37,7 +37,7 @@ Left {T} k = Lasts T k.κs k.passed
 
 module _ {T : Ended} (c : Contract T) (k : Call T) where
   abbrev pub said : ClausesAt k.𝓤 T k.κs
-  said = c k.M k.𝓤 k k.memory k.run k.κs k.passed
+  said = c k.M k.𝓤 k.𝓛 k.memory k.run k.κs k.passed
 
   -- what the contract ensures of a reply and of what is left in the lent lists (and of ghost values, which no contract
   -- here has)

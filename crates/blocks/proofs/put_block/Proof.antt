@@ -48,7 +48,7 @@ mul-gather c = let h = held_fits c in omega arith
 sub-gather : tie.Need-slice_bounds-gather-count
 sub-gather c = let h = held_fits c in omega arith
 
-part-gather-start : tie.Need-slice-bounds-gather-start
+part-gather-start : tie.Need-slice_bounds-gather-start
 part-gather-start c = let h = held_fits c in omega arith
 
 add-settle : tie.Need-overflow_add-c

@@ -24,15 +24,12 @@ fill-by-requires c κs =
       A.few _ _ a.index.now _ c.header-h.ensures c.if-h-ne0.false _ c.groups_for-groups.ensures,
     )
 
-cast-t17 : tie.Need-overflow-cast-t17
+cast-t17 : tie.Need-overflow_cast-result
 cast-t17 c =
-    let groups = c.before.before.before.before.before.before.before in
-    let other = groups.before in
-    let asked = other.before.before in
-    let a = asked.before.before.before.before.args in
+    let a = c.args in
     omega (
       arith,
-      A.few _ _ a.index.now _ asked.header.ensures other.if1.false _ groups.«groups-for».ensures,
+      A.few _ _ a.index.now _ c.header-h.ensures c.if-h-ne0.false _ c.groups_for-groups.ensures,
     )
 
 returns-3 : tie.Need-returns

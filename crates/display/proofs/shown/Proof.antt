@@ -8,12 +8,12 @@ use borrow.Author.Rules.{rules}
 use Rattle.display.proofs.shown.Statement.{statement}
 use Rattle.display.proofs.shown.Tie as tie
 
-float-from-bits-t12 : tie.Need-float-from-bits-t12
+float-from-bits-t12 : tie.Need-float_from_bits-result
 float-from-bits-t12 c =
-    no_nan c.before.before.ref-bits.result
-    (rw c.before.before.ref-bits.ensures (ref_small _ _ _ (omega arith) (omega arith) (omega arith)))
+    no_nan c.ref_bits-reference.result
+    (rw c.ref_bits-reference.ensures (ref_small _ _ _ (omega arith) (omega arith) (omega arith)))
 
-float-from-bits-t13 : tie.Need-float_from_bits-result
+float-from-bits-t13 : tie.Need-float_from_bits-result-2
 float-from-bits-t13 c =
     let s = shifted _ c.requires.0 c.requires.1 in
     no_nan c.step_bits-step.result (rw (c.step_bits-step.ensures ∙ s.bits) (omega (arith, s)))

@@ -19,7 +19,7 @@ use borrow.Author.Rules.{rules}
 use Rattle.framing.proofs.message_length.Statement.{statement}
 use Rattle.framing.proofs.message_length.Tie as tie
 
-abbrev start : tie.After-points → tie.Start
+abbrev start : tie.After-points-n → tie.Start
 start p = p.before.before.before.before.before.before
 
 -- E is 0
@@ -30,65 +30,52 @@ zero : (p : tie.After-plain) → unscaled p ≡ record { e = plain (pos 0); r = 
 zero p =
     ap {B = Scale} (λ (z : Signed). record { e = z; r = 0 }) (p.plain.ensures ∙ ap (λ (z : ℤ). plain z) (to_z_pos w32 (omega arith)))
 
-bounds : (i : tie.Else1)
-    → let p = i.before.before.before.before in let a = (start p).args in Sound a.pds.now a.form (unscaled i.before.before.before) a.marks.now p.points.result
+bounds : (i : tie.Else-refusal-ne0)
+    → let a = (start i.before.before.before.before).args in Sound a.pds.now a.form (unscaled i.before.before.before) a.marks.now i.points-n.result
 bounds i =
-    let j = i.before.before in
-    let p = j.before.before in
-    let a = (start p).args in
-    length-sound a.pds.now a.form _ (zero j.before) a.number a.store.now a.marks.now _
-    p.before.before.grid-from.ensures _ p.before.the-grid.ensures _ p.points.ensures _
-    j.judge-marks.ensures i.if1.false
+    let a = (start i.before.before.before.before).args in
+    length-sound a.pds.now a.form _ (zero i.before.before.before) a.number a.store.now a.marks.now _
+    i.grid_from-found.ensures _ i.the_grid.ensures _ i.points-n.ensures _
+    i.judge_marks-refusal.ensures i.if-refusal-ne0.false
 
-present : (m : tie.After-count)
-    → let p = m.before.before.before.before.before in m.count.result ≡ marked_count (start p).args.marks.now p.points.result
+present : (m : tie.After-count-m)
+    → m.count-m.result ≡ marked_count (start m.before.before.before.before.before).args.marks.now m.points-n.result
 unfolding marked_count
-present m = m.count.ensures
+present m = m.count-m.ensures
 
-few : (m : tie.After-count) → m.count.result ≤ points_most
+few : (m : tie.After-count-m) → m.count-m.result ≤ points_most
 few m =
-    let p = m.before.before.before.before.before in
-    omega (arith, present m, present-few (start p).args.marks.now p.points.result, (bounds m.before).few)
+    omega (arith, present m, present-few (start m.before.before.before.before.before).args.marks.now m.points-n.result, (bounds m.before).few)
 
-returns : tie.Need-returns
+returns : tie.Need-returns-then-refusal-ne0
 returns c =
-    let t = c.before in
-    let j = t.before.before in
-    let p = j.before.before in
-    let a = (start p).args in
+    let a = (start c.before.before.before.before.before).args in
     c.unwritten.ensures
-    ∙ length-refused a.pds.now a.form _ (zero j.before) a.number a.store.now a.marks.now _
-    p.before.before.grid-from.ensures _ p.before.the-grid.ensures _ p.points.ensures _
-    j.judge-marks.ensures t.if1.true
+    ∙ length-refused a.pds.now a.form _ (zero c.before.before.before.before) a.number a.store.now a.marks.now _
+    c.grid_from-found.ensures _ c.the_grid.ensures _ c.points-n.ensures _
+    c.judge_marks-refusal.ensures c.if-refusal-ne0.true
 
-message-room-requires : tie.Need-message-room-requires
+message-room-requires : tie.Need-message_room-requires
 message-room-requires c κs = let q = bounds c.before in (q.pds-most, (q.few, (few c, q.bits)))
 
-cast-written : tie.Need-overflow-cast-written
+cast-written : tie.Need-overflow_cast-message_room
 cast-written c =
-    let m = c.before in
-    let p = m.before.before.before.before.before in
-    let a = (start p).args in
-    let q = bounds m.before in
+    let a = (start c.before.before.before.before.before.before).args in
+    let q = bounds c.before.before in
     omega (
       arith,
-      c.message-room.ensures,
-      message-few (length a.pds.now) a.form p.points.result
-          m.count.result q.pds-most q.few (few m) q.bits,
+      c.message_room.ensures,
+      message-few (length a.pds.now) a.form c.points-n.result
+          c.count-m.result q.pds-most q.few (few c.before) q.bits,
     )
 
-returns-2 : tie.Need-returns-2
+returns-2 : tie.Need-returns
 returns-2 c =
-    let s = c.before in
-    let m = s.before in
-    let i = m.before in
-    let j = i.before.before in
-    let p = j.before.before in
-    let a = (start p).args in
+    let a = (start c.before.before.before.before.before.before.before).args in
     c.written.ensures
-    ∙ length_taken a.pds.now a.form _ (zero j.before) a.number a.store.now a.marks.now _
-    p.before.before.grid-from.ensures _ p.before.the-grid.ensures _ p.points.ensures _
-    j.judge-marks.ensures i.if1.false _ (present m) _ s.message-room.ensures
+    ∙ length_taken a.pds.now a.form _ (zero c.before.before.before.before.before.before) a.number a.store.now a.marks.now _
+    c.grid_from-found.ensures _ c.the_grid.ensures _ c.points-n.ensures _
+    c.judge_marks-refusal.ensures c.if-refusal-ne0.false _ (present c.before.before) _ c.message_room.ensures
 
 pub message_length_spec : {M : Type 1} → statement M
 message_length_spec =

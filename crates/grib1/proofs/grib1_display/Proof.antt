@@ -6,7 +6,7 @@ use Rattle.grib1.proofs.grib1_display.Statement.{statement}
 use Rattle.grib1.proofs.grib1_display.Tie as tie
 
 returns : tie.Need-returns
-returns c = c.display-record.ensures ∙ ap the_display_record c.before.display.ensures
+returns c = c.display_record.ensures ∙ ap the_display_record c.display.ensures
 
 pub grib1_display_spec : {M : Type 1} → statement M
 grib1_display_spec = tie.close (tie.spec (λ c κs. search rules) (λ c κs. search rules) returns)

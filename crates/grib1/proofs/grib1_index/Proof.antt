@@ -7,8 +7,8 @@ use Rattle.grib1.proofs.grib1_index.Tie as tie
 
 returns : tie.Need-returns
 returns c = (
-  c.indexed-record.ensures ∙ ap the_indexed_record c.before.before.before.fill.ensures.0,
-  c.before.before.before.fill.ensures.1,
+  c.indexed_record.ensures ∙ ap the_indexed_record c.fill.ensures.0,
+  c.fill.ensures.1,
 )
 
 pub grib1_index_spec : {M : Type 1} → statement M

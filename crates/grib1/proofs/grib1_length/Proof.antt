@@ -6,8 +6,8 @@ use Rattle.grib1.proofs.grib1_length.Tie as tie
 
 returns : tie.Need-returns
 returns c =
-    length-made _ _ _ _ _ c.before.before.form-by.ensures _ c.before.message-length.ensures _
-    c.written-record.ensures
+    length-made _ _ _ _ _ c.form_by.ensures _ c.message_length.ensures _
+    c.written_record.ensures
 
 pub grib1_length_spec : {M : Type 1} → statement M
 grib1_length_spec = tie.close (tie.spec (λ c κs. search rules) (λ c κs. search rules) (λ c κs. search rules) returns)

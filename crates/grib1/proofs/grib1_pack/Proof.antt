@@ -7,10 +7,10 @@ use Rattle.grib1.proofs.grib1_pack.Tie as tie
 
 returns : tie.Need-returns
 returns c =
-    pack_made _ _ _ _ _ _ _ _ _ c.before.before.before.before.before.form-by.ensures
-    (to_z-of_z c.before.before.before.before.before.before.before.before.before.before.ranges.d) _
-    c.before.before.before.pack.ensures.0 _ c.before.before.before.pack.ensures.1 _
-    c.written-record.ensures
+    pack_made _ _ _ _ _ _ _ _ _ c.form_by.ensures
+    (to_z-of_z c.ranges.d) _
+    c.pack.ensures.0 _ c.pack.ensures.1 _
+    c.written_record.ensures
 
 pub grib1_pack_spec : {M : Type 1} → statement M
 grib1_pack_spec =

@@ -6,10 +6,10 @@ use Rattle.grib1.proofs.grib1_place.Tie as tie
 returns : tie.Need-returns
 returns c =
     rw (
-      c.place-record.ensures,
-      c.before.spot_of_lem.ensures,
-      c.before.before.shape_of.ensures,
-      c.before.before.before.grid-back.ensures,
+      c.place_record.ensures,
+      c.spot_of.ensures,
+      c.shape_of.ensures,
+      c.grid_back.ensures,
     )
 
 pub grib1_place_spec : {M : Type 1} → statement M

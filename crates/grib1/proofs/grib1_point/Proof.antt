@@ -6,10 +6,10 @@ use Rattle.grib1.proofs.grib1_point.Tie as tie
 returns : tie.Need-returns
 returns c =
     rw (
-      c.point-record.ensures,
-      c.before.point_at.ensures,
-      c.before.before.shape_of.ensures,
-      c.before.before.before.grid-back.ensures,
+      c.point_record.ensures,
+      c.point_at.ensures,
+      c.shape_of.ensures,
+      c.grid_back.ensures,
     )
 
 pub grib1_point_spec : {M : Type 1} → statement M

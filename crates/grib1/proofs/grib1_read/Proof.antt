@@ -7,9 +7,9 @@ use Rattle.grib1.proofs.grib1_read.Tie as tie
 
 returns : tie.Need-returns
 returns c = (
-  c.header-record.ensures
-      ∙ ap the_header_record c.before.before.before.before.before.read.ensures.0,
-  c.before.before.before.before.before.read.ensures.1,
+  c.header_record.ensures
+      ∙ ap the_header_record c.read.ensures.0,
+  c.read.ensures.1,
 )
 
 pub grib1_read_spec : {M : Type 1} → statement M

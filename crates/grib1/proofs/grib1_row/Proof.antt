@@ -6,9 +6,9 @@ use Rattle.grib1.proofs.grib1_row.Tie as tie
 returns : tie.Need-returns
 returns c =
     rw (
-      c.row-long.ensures,
-      c.before.shape_of.ensures,
-      c.before.before.grid-back.ensures,
+      c.row_long.ensures,
+      c.shape_of.ensures,
+      c.grid_back.ensures,
     )
 
 pub grib1_row_spec : {M : Type 1} → statement M

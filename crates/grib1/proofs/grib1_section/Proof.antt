@@ -6,7 +6,7 @@ use Rattle.grib1.proofs.grib1_section.Statement.{statement}
 use Rattle.grib1.proofs.grib1_section.Tie as tie
 
 returns : tie.Need-returns
-returns c = c.part-record.ensures ∙ ap the_part_record c.before.section-part.ensures
+returns c = c.part_record.ensures ∙ ap the_part_record c.section_part.ensures
 
 pub grib1_section_spec : {M : Type 1} → statement M
 grib1_section_spec = tie.close (tie.spec (λ c κs. search rules) (λ c κs. search rules) returns)

@@ -10,13 +10,9 @@ use Rattle.grib1.proofs.grib1_write.Tie as tie
 
 returns : tie.Need-returns
 returns c =
-    let w = c.before.before.before in
-    let f = w.before.before in
-    let s = f.before in
-    let b = s.before.before.before.before.before.before in
-    let e = s.scale-by.ensures ∙ ap (λ (z : ℤ). the_scale_by z b.args.r) (to_z-of_z b.ranges.e) in
-    write-made _ _ _ _ _ _ _ _ _ _ _ f.form-by.ensures e _ w.write.ensures.0 _ w.write.ensures.1 _
-    c.written-record.ensures
+    let e = c.scale_by-scale.ensures ∙ ap (λ (z : ℤ). the_scale_by z c.args.r) (to_z-of_z c.ranges.e) in
+    write-made _ _ _ _ _ _ _ _ _ _ _ c.form_by.ensures e _ c.write.ensures.0 _ c.write.ensures.1 _
+    c.written_record.ensures
 
 pub grib1_write_spec : {M : Type 1} → statement M
 grib1_write_spec =

@@ -8,11 +8,11 @@ use Rattle.listing.proofs.counts.Tie as tie
 returns : tie.Need-returns
 returns c = (
   wrote_next (wrote_next (wrote_next
-      c.before.before.before.before.before.before.before.before.before.before.before.before.before.before.number.ensures.0
-      c.before.before.before.before.before.before.before.before.before.before.number2.ensures.0
+      c.number-a.ensures.0
+      c.number-b.ensures.0
       (omega arith))
-      c.before.before.before.before.before.before.number3.ensures.0 (omega arith))
-      c.before.before.number4.ensures.0 (omega arith),
+      c.number-c.ensures.0 (omega arith))
+      c.number.ensures.0 (omega arith),
   omega arith,
 )
 

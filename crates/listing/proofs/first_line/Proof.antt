@@ -8,11 +8,10 @@ use Rattle.listing.proofs.first_line.Tie as tie
 
 returns : tie.Need-returns
 returns c =
-    let n = c.before.before.before.before.before.before in
-    let p = n.counts.ensures in
-    let q = c.before.before.scales.ensures in (
-      first_done _ _ _ n.before.before.before.before.before.before.args.h _ _ _
-          n.before.before.before.before.shape_of.ensures n.before.before.columns-on.ensures n.before.rows_on.ensures
+    let p = c.counts-half.ensures in
+    let q = c.scales.ensures in (
+      first_done _ _ _ c.args.h _ _ _
+          c.shape_of-shape.ensures c.columns_on.ensures c.rows_on.ensures
           (wrote_next p.0 q.0 (omega (arith, p.1, q.1))),
       omega (arith, p.1, q.1),
     )

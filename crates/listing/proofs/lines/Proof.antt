@@ -22,14 +22,13 @@ rows_of present values {t} {u} {at} {next} e a =
 rows-requires : tie.Need-rows-requires
 rows-requires c κs =
     let e = ap (λ (x : Shape). the_points_on x) c.shape_of.ensures in
-    let p = c.before.before.before.before.first-line.ensures in
+    let p = c.first_line-next.ensures in
     (omega (arith, e, p.1), omega (arith, e))
 
 returns : tie.Need-returns
 returns c =
-    let n = c.before.before in
-    let p = n.before.before.before.before.before.first-line.ensures in
-    let q = rows_of _ _ n.before.shape_of.ensures n.rows.ensures in
+    let p = c.first_line-next.ensures in
+    let q = rows_of _ _ c.shape_of.ensures c.rows.ensures in
     (wrote_next p.0 q.0 (omega (arith, p.1, q.1)), omega (arith, p.1, q.1))
 
 pub lines_spec : {M : Type 1} → statement M

@@ -10,9 +10,9 @@ returns : tie.Need-returns
 unfolding refused_line line joined_to
 returns c = (
   wrote_next
-      (wrote_next c.before.before.before.before.before.before.before.before.before.before.word.ensures
-      c.before.before.before.before.before.before.letter.ensures (omega arith))
-      c.before.before.number.ensures.0 (omega arith),
+      (wrote_next c.word-a.ensures
+      c.letter-b.ensures (omega arith))
+      c.number.ensures.0 (omega arith),
   omega arith,
 )
 
@@ -20,7 +20,6 @@ pub refused_spec : {M : Type 1} → statement M
 refused_spec =
     tie.close
     (tie.spec
-    (λ c. search rules)
     (λ c κs. search rules)
     (λ c κs. search rules)
     (λ c κs. search rules)

@@ -8,26 +8,26 @@ use Rattle.listing.proofs.Signs.{signed_arg}
 use Rattle.listing.proofs.scales.Statement.{statement}
 use Rattle.listing.proofs.scales.Tie as tie
 
-fits-d : (c : tie.After-slice-known5)
+fits-d : (c : tie.After-slice_known-5-1)
     → SFits w32
-    c.before.before.before.before.before.before.before.before.before.before.before.before.before.before.before.before.before.before.before.args.d.value
+    c.args.d.value
 fits-d c = search rules
 
-fits-e : (c : tie.After-slice-known5)
+fits-e : (c : tie.After-slice_known-5-1)
     → SFits w32
-    c.before.before.before.before.before.before.before.before.before.before.before.before.before.before.before.before.before.before.before.args.e.value
+    c.args.e.value
 fits-e c = search rules
 
 returns : tie.Need-returns
 returns c = (
   wrote_next (wrote_next (wrote_next
       (signed_arg _ _ _ _ _ _ (fits-d c)
-      c.before.before.before.before.before.before.before.before.before.before.before.before.before.before.before.signed.ensures.0)
+      c.signed-f.ensures.0)
       (signed_arg _ _ _ _ _ _ (fits-e c)
-      c.before.before.before.before.before.before.before.before.before.before.signed2.ensures.0)
+      c.signed-g.ensures.0)
       (omega arith))
-      c.before.before.before.before.before.before.hex.ensures.0 (omega arith))
-      c.before.before.number.ensures.0 (omega arith),
+      c.hex-h.ensures.0 (omega arith))
+      c.number.ensures.0 (omega arith),
   omega arith,
 )
 

@@ -8,16 +8,12 @@ use Rattle.packer.proofs.judge_source.Tie as tie
 
 returns : tie.Need-returns
 returns c =
-    let p = c.before.before.before in
-    let t = p.before.before in
-    let s = t.before.before.before.before in
-    let b = s.before.before.before in
-    judged-source b.args.pds.now _ b.args.numbers.now b.args.marks.now _ _ (to_z-of_z b.ranges.d) _
-    s.signed-two.ensures
-    _ (to_z-of_z {w = w32} {z = s.signed-two.result.value} (record { sfits = t.before.before.before.struct_told.given.0.1 }))
-    _ t.before.before.decimal-differs.ensures _ t.before.packing-bad.ensures _ t.last.ensures _
-    p.before.refuse.ensures _ p.pds-bad.ensures
-    _ c.before.before.source-bad.ensures _ c.before.refuse2.ensures _ c.refuse3.ensures
+    judged-source c.args.pds.now _ c.args.numbers.now c.args.marks.now _ _ (to_z-of_z c.ranges.d) _
+    c.signed_two-own.ensures
+    _ (to_z-of_z {w = w32} {z = c.signed_two-own.result.value} (record { sfits = c.struct_told-1.given.0.1 }))
+    _ c.decimal_differs.ensures _ c.packing_bad.ensures _ c.last.ensures _
+    c.refuse-later.ensures _ c.pds_bad.ensures
+    _ c.source_bad.ensures _ c.refuse.ensures _ c.refuse-2.ensures
 
 pub judge_source_spec : {M : Type 1} → statement M
 judge_source_spec =

@@ -12,57 +12,41 @@ use Rattle.packer.proofs.Packed.{source-same, pack-early, pack_19, listed, pack-
 use Rattle.packer.proofs.pack.Statement.{statement}
 use Rattle.packer.proofs.pack.Tie as tie
 
-returns : tie.Need-returns
+returns : tie.Need-returns-then-early-ne0
 returns c =
-    let t = c.before in
-    let j = t.before.before in
-    let b = j.before.before.before.before.before.before in
-    let a = b.args in
-    let s = source-same a.pds.now a.form.packing a.numbers.now a.marks.now a.d b.ranges.d _ j.judge-source.ensures in
-    let r = pack-early a.pds.now a.form a.number a.store.now a.numbers.now a.marks.now a.d a.out.now _ s t.if1.true in
+    let a = c.args in
+    let s = source-same a.pds.now a.form.packing a.numbers.now a.marks.now a.d c.ranges.d _ c.judge_source-early.ensures in
+    let r = pack-early a.pds.now a.form a.number a.store.now a.numbers.now a.marks.now a.d a.out.now _ s c.if-early-ne0.true in
     (c.unwritten.ensures ∙ r.0, r.1)
 
-returns-2 : tie.Need-returns-2
+returns-2 : tie.Need-returns-then-e
 returns-2 c =
-    let t = c.before in
-    let k = t.before in
-    let i = k.before in
-    let j = i.before.before in
-    let b = j.before.before.before.before.before.before in
-    let a = b.args in
-    let s = source-same a.pds.now a.form.packing a.numbers.now a.marks.now a.d b.ranges.d _ j.judge-source.ensures in
-    let g = k.choose.ensures a.d in
-    let l : step_most < k.choose.result.exponent = omega (arith, t.if2.true) in
-    let r = pack_19 a.pds.now a.form a.number a.store.now a.numbers.now a.marks.now a.d a.out.now _ s i.if1.false _ g.1 l in
+    let a = c.args in
+    let s = source-same a.pds.now a.form.packing a.numbers.now a.marks.now a.d c.ranges.d _ c.judge_source-early.ensures in
+    let g = c.choose-choice.ensures a.d in
+    let l : step_most < c.choose-choice.result.exponent = omega (arith, c.if-e.true) in
+    let r = pack_19 a.pds.now a.form a.number a.store.now a.numbers.now a.marks.now a.d a.out.now _ s c.if-early-ne0.false _ g.1 l in
     (c.written.ensures ∙ r.0, r.1)
 
-write-scaled-requires : tie.Need-write-scaled-requires
+write-scaled-requires : tie.Need-write_scaled-requires
 write-scaled-requires c κs =
-    let k = c.before.before.before.before.before in
-    let i = k.before in
-    let j = i.before.before in
-    let b = j.before.before.before.before.before.before in
-    let a = b.args in
-    let s = source-same a.pds.now a.form.packing a.numbers.now a.marks.now a.d b.ranges.d _ j.judge-source.ensures in
-    let g = k.choose.ensures a.d in
-    let h = c.before.before.before.before.if2.false in
+    let a = c.args in
+    let s = source-same a.pds.now a.form.packing a.numbers.now a.marks.now a.d c.ranges.d _ c.judge_source-early.ensures in
+    let g = c.choose-choice.ensures a.d in
+    let h = c.if-e.false in
     listed a.pds.now a.form a.number a.store.now a.numbers.now a.marks.now a.d a.out.now _
-    s i.if1.false _ g.1 h _ g.0
+    s c.if-early-ne0.false _ g.1 h _ g.0
 
-returns-3 : tie.Need-returns-3
+returns-3 : tie.Need-returns
 returns-3 c =
-    let k = c.before.before.before.before.before.before.before.before in
-    let i = k.before in
-    let j = i.before.before in
-    let b = j.before.before.before.before.before.before in
-    let a = b.args in
-    let s = source-same a.pds.now a.form.packing a.numbers.now a.marks.now a.d b.ranges.d _ j.judge-source.ensures in
-    let g = k.choose.ensures a.d in
-    let h = c.before.before.before.before.before.before.before.if2.false in
-    let v = c.before.before.before.before.before.plain.ensures ∙ ap plain (to_z_pos w32 {n = k.choose.result.exponent} (omega arith)) in
-    let w = c.before.before.write-scaled.ensures in
-    let q = c.before.before.before.before.spelling.ensures ∙ ap spelling_from (to_z-of_z {w = w32} {z = k.choose.result.reference} (record { sfits = c.before.before.before.before.before.before.struct_told.given.0.1 })) in
-    let r = pack-done a.pds.now a.form a.number a.store.now a.numbers.now a.marks.now a.d a.out.now _ s i.if1.false _ g.1 h _ g.0 _ v q _ w.0 _ w.1 in
+    let a = c.args in
+    let s = source-same a.pds.now a.form.packing a.numbers.now a.marks.now a.d c.ranges.d _ c.judge_source-early.ensures in
+    let g = c.choose-choice.ensures a.d in
+    let h = c.if-e.false in
+    let v = c.plain.ensures ∙ ap plain (to_z_pos w32 {n = c.choose-choice.result.exponent} (omega arith)) in
+    let w = c.write_scaled.ensures in
+    let q = c.spelling.ensures ∙ ap spelling_from (to_z-of_z {w = w32} {z = c.choose-choice.result.reference} (record { sfits = c.struct_told-1.given.0.1 })) in
+    let r = pack-done a.pds.now a.form a.number a.store.now a.numbers.now a.marks.now a.d a.out.now _ s c.if-early-ne0.false _ g.1 h _ g.0 _ v q _ w.0 _ w.1 in
     (r.0, r.1)
 
 pub pack_spec : {M : Type 1} → statement M

@@ -20,7 +20,7 @@ use borrow.Author.Rules.{rules}
 use Rattle.packer.proofs.write_scaled.Statement.{statement}
 use Rattle.packer.proofs.write_scaled.Tie as tie
 
-abbrev start : tie.After-judge-marks → tie.Start
+abbrev start : tie.After-judge_marks-refusal → tie.Start
 start j = j.before.before.before.before.before.before.before.before
 
 -- the list of X
@@ -31,88 +31,70 @@ long : (b : tie.Start) → length (xs b) ≡ length b.args.numbers.now
 long b =
     length-scaled b.args.numbers.now b.args.marks.now b.args.choice.reference b.args.choice.exponent
 
-judged : (j : tie.After-judge-marks)
-    → let b = start j in let a = b.args in j.judge-marks.result ≡ first (own_rows a.pds.now a.form a.scale (record { number = a.number; octets = a.store.now }) (xs b) a.marks.now j.before.before.before.grid-from.result j.before.points.result)
+judged : (j : tie.After-judge_marks-refusal)
+    → let b = start j in let a = b.args in j.judge_marks-refusal.result ≡ first (own_rows a.pds.now a.form a.scale (record { number = a.number; octets = a.store.now }) (xs b) a.marks.now j.grid_from-found.result j.points-n.result)
 judged j =
     let b = start j in
     let a = b.args in
-    j.judge-marks.ensures ∙ ap first (rows-marked a.pds.now a.form a.scale (record { number = a.number; octets = a.store.now }) (xs b) a.marks.now _ _ _ b.pre (sym (long b)))
+    j.judge_marks-refusal.ensures ∙ ap first (rows-marked a.pds.now a.form a.scale (record { number = a.number; octets = a.store.now }) (xs b) a.marks.now _ _ _ b.requires (sym (long b)))
 
-abbrev laid : tie.Else2 → tie.After-lay
-laid e = e.before.before.before.before
-
-room : (e : tie.Else2)
-    → let b = start (laid e).before.before.before.before in Room b.args.form (xs b) b.args.marks.now (laid e).lay.result (length b.args.out.now)
+room : (e : tie.Else-frame-eq0)
+    → let b = start e.before.before.before.before.before.before.before.before in Room b.args.form (xs b) b.args.marks.now e.lay-frame.result (length b.args.out.now)
 room e =
-    let l = laid e in
-    let i = l.before.before in
-    let j = i.before.before in
+    let j = e.before.before.before.before.before.before.before.before in
     let b = start j in
     let a = b.args in
     room_of a.pds.now a.form a.scale a.number a.store.now (xs b) a.marks.now a.out.now _
-    j.before.before.before.grid-from.ensures _ j.before.before.the-grid.ensures _
-    j.before.points.ensures _ (judged j) i.if1.left _ l.lay.ensures.0 e.if2.false
+    e.grid_from-found.ensures _ e.the_grid.ensures _
+    e.points-n.ensures _ (judged j) e.if-refusal-ne0.false _ e.lay-frame.ensures.0 e.if-frame-eq0.false
 
-returns : tie.Need-returns
+returns : tie.Need-returns-then-refusal-ne0
 returns c =
-    let i = c.before in
-    let j = i.before.before in
-    let b = start j in
+    let b = start c.before.before.before in
     let a = b.args in
-    let r = refused-early a.pds.now a.form a.scale a.number a.store.now (xs b) a.marks.now a.out.now _ j.before.before.before.grid-from.ensures _ j.before.before.the-grid.ensures _ j.before.points.ensures _ (judged j) i.if1.true in
+    let r = refused-early a.pds.now a.form a.scale a.number a.store.now (xs b) a.marks.now a.out.now _ c.grid_from-found.ensures _ c.the_grid.ensures _ c.points-n.ensures _ (judged c.before.before.before) c.if-refusal-ne0.true in
     (c.unwritten.ensures ∙ r.0, r.1)
 
-returns-2 : tie.Need-returns-2
+returns-2 : tie.Need-returns-then-frame-eq0
 returns-2 c =
-    let t = c.before in
-    let l = t.before.before.before.before in
-    let i = l.before.before in
-    let j = i.before.before in
-    let b = start j in
+    let b = start c.before.before.before.before.before.before.before.before.before in
     let a = b.args in
-    let r = refused-late a.pds.now a.form a.scale a.number a.store.now (xs b) a.marks.now a.out.now _ j.before.before.before.grid-from.ensures _ j.before.before.the-grid.ensures _ j.before.points.ensures _ (judged j) i.if1.false _ l.lay.ensures.0 t.if2.true _ l.lay.ensures.1 in
+    let r = refused-late a.pds.now a.form a.scale a.number a.store.now (xs b) a.marks.now a.out.now _ c.grid_from-found.ensures _ c.the_grid.ensures _ c.points-n.ensures _ (judged c.before.before.before.before.before.before.before.before.before) c.if-refusal-ne0.false _ c.lay-frame.ensures.0 c.if-frame-eq0.true _ c.lay-frame.ensures.1 in
     (c.written.ensures ∙ r.0, r.1)
 
-sub-end : tie.Need-overflow-sub-end
+sub-end : tie.Need-overflow_sub-end
 sub-end c = omega (arith, (room c.before).end)
 
-sub-put-scaled : tie.Need-overflow-sub-put-scaled
-sub-put-scaled c = omega (arith, (room c.before).start, (laid c.before).lay.auto)
+sub-put-scaled : tie.Need-slice_bounds-put_scaled-count
+sub-put-scaled c = omega (arith, (room c.before).start, c.lay-frame.auto.out)
 
-part-put-scaled-start : tie.Need-slice-bounds-put-scaled-start
-part-put-scaled-start c = omega (arith, (room c.before).start, (laid c.before).lay.auto)
+part-put-scaled-start : tie.Need-slice_bounds-put_scaled-start
+part-put-scaled-start c = omega (arith, (room c.before).start, c.lay-frame.auto.out)
 
-put-scaled-requires : tie.Need-put-scaled-requires
+put-scaled-requires : tie.Need-put_scaled-requires
 put-scaled-requires c κs =
-    let e = c.before.before in
-    let l = laid e in
-    let b = start l.before.before.before.before in
-    let q = room e in (
+    let b = start c.before.before.before.before.before.before.before.before.before.before in
+    let q = room c.before.before in (
       q.bits,
       (
-        b.pre,
+        b.requires,
         (
           q.present
               ∙ ap (count (mark_of b.args.marks.now) 0) (long b),
           omega
-              (arith, q.data_room, l.lay.kept, part_length l.lay.last.1.1.1.1.1.0 l.lay.result.at),
+              (arith, q.data_room, c.lay-frame.auto.out, part_length c.lay-frame.new.out c.lay-frame.result.at),
         ),
       ),
     )
 
-returns-3 : tie.Need-returns-3
+returns-3 : tie.Need-returns
 returns-3 c =
-    let f = c.before.before.before in
-    let v = f.before.before.before.before in
-    let e = v.before.before.before in
-    let l = laid e in
-    let i = l.before.before in
-    let j = i.before.before in
+    let j = c.before.before.before.before.before.before.before.before.before.before.before.before.before.before.before.before.before.before in
     let b = start j in
     let a = b.args in
-    let o = l.lay.last.1.1.1.1.1.0 in
-    let r = written a.pds.now a.form a.scale a.number a.store.now (xs b) a.marks.now a.out.now _ j.before.before.before.grid-from.ensures _ j.before.before.the-grid.ensures _ j.before.points.ensures _ (judged j) i.if1.left _ l.lay.ensures.0 e.if2.false _ l.lay.ensures.1 _ (v.put-scaled.ensures ∙ ap (λ (x : ℕ). packed_into a.form.packing.bits (gathered (mark_of a.marks.now) (value_of (xs b)) x) (take (length o - l.lay.result.at) (drop l.lay.result.at o))) (sym (long b))) _ f.put_four.ensures.1 in
-    (c.written2.ensures ∙ r.0, r.1)
+    let o = c.lay-frame.new.out in
+    let r = written a.pds.now a.form a.scale a.number a.store.now (xs b) a.marks.now a.out.now _ c.grid_from-found.ensures _ c.the_grid.ensures _ c.points-n.ensures _ (judged j) c.if-refusal-ne0.false _ c.lay-frame.ensures.0 c.if-frame-eq0.false _ c.lay-frame.ensures.1 _ (c.put_scaled.ensures ∙ ap (λ (x : ℕ). packed_into a.form.packing.bits (gathered (mark_of a.marks.now) (value_of (xs b)) x) (take (length o - c.lay-frame.result.at) (drop c.lay-frame.result.at o))) (sym (long b))) _ c.put_four.ensures.1 in
+    (c.written-2.ensures ∙ r.0, r.1)
 
 pub write_scaled_spec : {M : Type 1} → statement M
 write_scaled_spec =

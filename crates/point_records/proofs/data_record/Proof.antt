@@ -4,14 +4,14 @@ use borrow.Author.Rules.{rules}
 use Rattle.point_records.proofs.data_record.Statement.{statement}
 use Rattle.point_records.proofs.data_record.Tie as tie
 
-returns : tie.Need-returns
-returns c = data_present _ _ _ c.before.before.n.given.1 c.number.ensures
+returns : tie.Need-returns-in-Present
+returns c = data_present _ _ _ c.in-Present.is c.number.ensures
 
-returns-2 : tie.Need-returns-2
-returns-2 c = rw c.enum_told.given.1
+returns-2 : tie.Need-returns-in-Absent
+returns-2 c = rw c.in-Absent.is
 
-returns-3 : tie.Need-returns-3
-returns-3 c = rw c.enum-told2.given.1
+returns-3 : tie.Need-returns-in-Outside
+returns-3 c = rw c.in-Outside.is
 
 pub data_record_spec : {M : Type 1} → statement M
 data_record_spec =

@@ -19,15 +19,15 @@ returns c =
     let v2 = c.value-2 in
     let v1 = c.value in
     grid-made c.args.g _ _ _ _ _ _ _ _ _ _ c.figures_of-x.ensures
-    (to_z-of_z {w = w32} {z = v1.result} (record { sfits = v1.type-inv }) ∙ v1.ensures)
-    (to_z-of_z {w = w32} {z = v2.result} (record { sfits = v2.type-inv }) ∙ v2.ensures)
-    (to_z-of_z {w = w32} {z = v3.result} (record { sfits = v3.type-inv }) ∙ v3.ensures)
-    (to_z-of_z {w = w32} {z = v4.result} (record { sfits = v4.type-inv }) ∙ v4.ensures)
-    (to_z-of_z {w = w32} {z = v5.result} (record { sfits = v5.type-inv }) ∙ v5.ensures)
-    (to_z-of_z {w = w32} {z = v6.result} (record { sfits = v6.type-inv }) ∙ v6.ensures)
-    (to_z-of_z {w = w32} {z = v7.result} (record { sfits = v7.type-inv }) ∙ v7.ensures)
-    (to_z-of_z {w = w32} {z = v8.result} (record { sfits = v8.type-inv }) ∙ v8.ensures)
-    (to_z-of_z {w = w32} {z = v9.result} (record { sfits = v9.type-inv }) ∙ v9.ensures)
+    (to_z-of_z {w = w32} {z = v1.result} (record { sfits = v1.type_inv }) ∙ v1.ensures)
+    (to_z-of_z {w = w32} {z = v2.result} (record { sfits = v2.type_inv }) ∙ v2.ensures)
+    (to_z-of_z {w = w32} {z = v3.result} (record { sfits = v3.type_inv }) ∙ v3.ensures)
+    (to_z-of_z {w = w32} {z = v4.result} (record { sfits = v4.type_inv }) ∙ v4.ensures)
+    (to_z-of_z {w = w32} {z = v5.result} (record { sfits = v5.type_inv }) ∙ v5.ensures)
+    (to_z-of_z {w = w32} {z = v6.result} (record { sfits = v6.type_inv }) ∙ v6.ensures)
+    (to_z-of_z {w = w32} {z = v7.result} (record { sfits = v7.type_inv }) ∙ v7.ensures)
+    (to_z-of_z {w = w32} {z = v8.result} (record { sfits = v8.type_inv }) ∙ v8.ensures)
+    (to_z-of_z {w = w32} {z = v9.result} (record { sfits = v9.type_inv }) ∙ v9.ensures)
 
 pub grid_record_spec : {M : Type 1} → statement M
 grid_record_spec =

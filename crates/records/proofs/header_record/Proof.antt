@@ -13,8 +13,8 @@ returns c =
     let e = c.value-2 in
     header_made c.args.h _ _
     _ _ _ _ _ _ _
-    (to_z-of_z {w = w32} {z = d.result} (record { sfits = d.type-inv }) ∙ d.ensures)
-    (to_z-of_z {w = w32} {z = e.result} (record { sfits = e.type-inv }) ∙ e.ensures)
+    (to_z-of_z {w = w32} {z = d.result} (record { sfits = d.type_inv }) ∙ d.ensures)
+    (to_z-of_z {w = w32} {z = e.result} (record { sfits = e.type_inv }) ∙ e.ensures)
     c.bitmap_kind.ensures
     c.grid_record.ensures
     c.part_record.ensures

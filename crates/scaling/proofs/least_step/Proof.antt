@@ -1,4 +1,6 @@
 -- The least E that fits: at each E passed the spread fills the N bits; the measure is what is left of the E there are.
+use mathlib.Core.Bool.{not}
+use mathlib.Core.Path.{ap}
 use Rattle.scaling.proofs.Choosing.{NoneBefore, least-end, least-found, least_on}
 use borrow.Author.Rules.{rules}
 use native.Mathlib.Omega.{arith}
@@ -19,14 +21,14 @@ loop-holds c = (omega arith, λ k l. absurd (omega arith))
 returns : tie.Need-returns-then-not-fills invariant-loop decreases-loop
 returns c =
     least-found _ _ _ c.loop-e.invariant.1 _ _ c.step.ensures c.fills.ensures
-    c.loop-e-test.true c.if-not-fills.true
+    c.loop-e-test.true (ap not c.if-not-fills.true)
 
 loop-again : tie.Need-loop-e-preserved invariant-loop decreases-loop
 loop-again c =
     (
       omega arith,
       least_on _ _ _ c.loop-e.invariant.1 _ _ c.step.ensures c.fills.ensures
-          c.if-not-fills.false,
+          (ap not c.if-not-fills.false),
     )
 
 returns-2 : tie.Need-returns invariant-loop decreases-loop

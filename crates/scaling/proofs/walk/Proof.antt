@@ -79,7 +79,7 @@ mul-gather-numbers c =
     let h : c.loop-i.i ≤ length (start c).args.numbers.now = omega (arith, inside c) in
     search rules
 
-part-gather-numbers-end : tie.Need-slice-bounds-gather-numbers-end invariant-loop decreases-loop
+part-gather-numbers-end : tie.Need-slice_bounds-gather_numbers-end invariant-loop decreases-loop
 part-gather-numbers-end c = omega (arith, inside c)
 
 least-of-requires : tie.Need-least_of-low-requires invariant-loop decreases-loop
@@ -126,8 +126,8 @@ returns c =
     let a = c.args in
     let n = c.shorter-n.result in
     let e : l.i ≡ n = omega arith in
-    let low = subst (λ (x : ℕ). to_z w32 l.low ≡ lowest_in a.numbers.now a.marks.now x) e l.invariant.1.1.0 in
-    let high = subst (λ (x : ℕ). Highest a.numbers.now a.marks.now x (to_z w32 l.high)) e l.invariant.1.1.1 in (
+    let low = subst (λ (x : ℕ). to_z w32 l.low-bits ≡ lowest_in a.numbers.now a.marks.now x) e l.invariant.1.1.0 in
+    let high = subst (λ (x : ℕ). Highest a.numbers.now a.marks.now x (to_z w32 l.high-bits)) e l.invariant.1.1.1 in (
       ap (λ t. not t) c.none_marked-marked.ensures,
       (
         lowest-whole a.numbers.now a.marks.now n _ (ends c.before.before.before).0.0 (ends c.before.before.before).1 _ low,

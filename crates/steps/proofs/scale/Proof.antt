@@ -11,18 +11,16 @@ use borrow.Author.Rules.{rules}
 use Rattle.steps.proofs.scale.Statement.{statement}
 use Rattle.steps.proofs.scale.Tie as tie
 
-returns : tie.Need-returns
+returns : tie.Need-returns-then-numbers-xs
 returns c =
-    let q = c.before.before in
-    let s = q.before.before.before.before in
-    let a = s.args in
+    let a = c.args in
     with-room a.numbers.now a.r a.e a.xs.now (omega arith) _
-    (q.scale-fitting.ensures
+    (c.scale_fitting.ensures
     ∙ ap (λ (x : ℤ). steps_to a.numbers.now x a.e (length a.numbers.now) a.xs.now)
-    (to_z-of_z s.ranges.r))
+    (to_z-of_z c.ranges.r))
 
-returns-2 : tie.Need-returns-2
-returns-2 c = let a = c.before.before.args in without-room a.numbers.now a.r a.e a.xs.now (omega arith)
+returns-2 : tie.Need-returns-else-numbers-xs
+returns-2 c = let a = c.args in without-room a.numbers.now a.r a.e a.xs.now (omega arith)
 
 pub scale_spec : {M : Type 1} → statement M
 scale_spec = tie.close (tie.spec (λ c κs. search rules) (λ c. search rules) returns returns-2)

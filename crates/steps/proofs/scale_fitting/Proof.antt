@@ -13,38 +13,36 @@ use Rattle.steps.proofs.Near.{none, stored_more}
 use Rattle.steps.proofs.scale_fitting.Statement.{statement}
 use Rattle.steps.proofs.scale_fitting.Tie as tie
 
-abbrev invariant-loop : tie.invariant-loop
+abbrev invariant-loop : tie.invariant-loop-i
 invariant-loop numbers r e xs₀ i₀ xs i =
     (i ≤ length numbers) × (length xs ≡ length xs₀) × (xs ≡ steps_to numbers (to_z w32 r) e i xs₀)
 
-abbrev decreases-loop : tie.decreases-loop
+abbrev decreases-loop : tie.decreases-loop-i
 decreases-loop numbers r e xs₀ i₀ xs i = length numbers - i
 
-loop-holds : tie.Need-loop-init invariant-loop decreases-loop
-loop-holds c = let a = c.before.args in (omega arith, refl, none a.numbers.now (to_z w32 (of_z w32 a.r)) a.e a.xs.now)
+loop-holds : tie.Need-loop-i-init invariant-loop decreases-loop
+loop-holds c = let a = c.args in (omega arith, refl, none a.numbers.now (to_z w32 (of_z w32 a.r)) a.e a.xs.now)
 
-loop-again : tie.Need-loop-preserved invariant-loop decreases-loop
+loop-again : tie.Need-loop-i-preserved invariant-loop decreases-loop
 loop-again c =
-    let d = c.before in
-    let l = d.before.before.before.loop in
-    let a = d.before.before.before.before.before.args in
+    let l = c.loop-i in
+    let a = c.args in
     let r = to_z w32 (of_z w32 a.r) in
     let z = get_or a.numbers.now l.i (pos 0) in
-    let k = d.distance.ensures ∙ ap (λ (x : ℤ). nat_abs (x -ℤ r)) (to_z-of_z {w = w32} {z = z} (record { sfits = d.before.distance-arg.given })) in (
+    let k = c.distance.ensures ∙ ap (λ (x : ℤ). nat_abs (x -ℤ r)) (to_z-of_z {w = w32} {z = z} (record { sfits = c.distance-arg-1.given })) in (
       omega arith,
       simp length-set l.invariant.1,
       stored_more a.numbers.now r a.e a.xs.now l.i l.xs
-          (omega arith) l.invariant.2 d.distance.result c.step.result k c.step.ensures,
+          (omega arith) l.invariant.2 c.distance.result c.step.result k c.step.ensures,
     )
 
 returns : tie.Need-returns invariant-loop decreases-loop
 returns c =
-    let l = c.before.loop in
-    let s = c.before.before.before in
-    let a = s.args in
+    let l = c.loop-i in
+    let a = c.args in
     let e : l.i ≡ length a.numbers.now = omega arith in
     l.invariant.2 ∙ ap (λ (x : ℕ). steps_to a.numbers.now (to_z w32 (of_z w32 a.r)) a.e x a.xs.now) e
-    ∙ ap (λ (x : ℤ). steps_to a.numbers.now x a.e (length a.numbers.now) a.xs.now) (to_z-of_z s.ranges.r)
+    ∙ ap (λ (x : ℤ). steps_to a.numbers.now x a.e (length a.numbers.now) a.xs.now) (to_z-of_z c.ranges.r)
 
 pub scale_fitting_spec : {M : Type 1} → statement M
 scale_fitting_spec =

@@ -9,17 +9,17 @@ use borrow.Author.Rules.{rules}
 use Rattle.steps.proofs.step.Statement.{statement}
 use Rattle.steps.proofs.step.Tie as tie
 
-returns : tie.Need-returns
-returns c = none_yet _ _ c.if1.true
+returns : tie.Need-returns-then-e-eq0
+returns c = none_yet _ _ c.if-e-eq0.true
 
-returns-2 : tie.Need-returns-2
-returns-2 c = far-on _ _ (omega arith) c.before.before.ranges.a.fits
+returns-2 : tie.Need-returns-then-e-gt32
+returns-2 c = far-on _ _ (omega arith) c.ranges.a.fits
 
-add-result : tie.Need-overflow-add-result
-add-result c = let b = c.before.before in record { fits = omega (arith, div-le_self b.args.a (2 ^ (b.args.e - 1)), b.ranges.a.fits) }
+add-result : tie.Need-overflow_add-result
+add-result c = record { fits = omega (arith, div-le_self c.args.a (2 ^ (c.args.e - 1)), c.ranges.a.fits) }
 
-returns-3 : tie.Need-returns-3
-returns-3 c = by-halves _ _ c.before.if1.false
+returns-3 : tie.Need-returns
+returns-3 c = by-halves _ _ c.if-e-eq0.false
 
 pub step_spec : {M : Type 1} → statement M
 step_spec =

@@ -9,74 +9,60 @@ use borrow.Author.Rules.{rules}
 use Rattle.writer.proofs.write.Statement.{statement}
 use Rattle.writer.proofs.write.Tie as tie
 
-abbrev start : tie.Else1 → tie.Start
+abbrev start : tie.Else-refusal-ne0 → tie.Start
 start i = i.before.before.before.before.before.before.before.before.before.before.before
 
-abbrev laid : tie.Else2 → tie.After-lay
+abbrev laid : tie.Else-frame-eq0 → tie.After-lay-frame
 laid e = e.before.before.before.before
 
-room : (e : tie.Else2)
-    → let a = (start (laid e).before.before).args in Room a.form a.values.now a.marks.now (laid e).lay.result (length a.out.now)
+room : (e : tie.Else-frame-eq0)
+    → let a = e.args in Room a.form a.values.now a.marks.now (laid e).lay-frame.result (length a.out.now)
 room e =
-    let l = laid e in
-    let i = l.before.before in
-    let a = (start i).args in
+    let a = e.args in
     room_of a.pds.now a.form a.scale a.number a.store.now a.values.now a.marks.now
-    a.out.now _ i.before.before.before.before.before.grid-from.ensures _
-    i.before.before.before.before.the-grid.ensures _ i.before.before.before.points.ensures _
-    i.before.before.judge.ensures i.if1.left _ l.lay.ensures.0 e.if2.false
+    a.out.now _ e.grid_from-found.ensures _ e.the_grid.ensures _ e.points-n.ensures _
+    e.judge-refusal.ensures e.if-refusal-ne0.false _ e.lay-frame.ensures.0 e.if-frame-eq0.false
 
-returns : tie.Need-returns
+returns : tie.Need-returns-then-refusal-ne0
 returns c =
-    let i = c.before in
-    let a = i.before.before.before.before.before.before.before.before.before.before.before.args in
-    let r = refused-early a.pds.now a.form a.scale a.number a.store.now a.values.now a.marks.now a.out.now _ i.before.before.before.before.before.grid-from.ensures _ i.before.before.before.before.the-grid.ensures _ i.before.before.before.points.ensures _ i.before.before.judge.ensures i.if1.true in
+    let a = c.args in
+    let r = refused-early a.pds.now a.form a.scale a.number a.store.now a.values.now a.marks.now a.out.now _ c.grid_from-found.ensures _ c.the_grid.ensures _ c.points-n.ensures _ c.judge-refusal.ensures c.if-refusal-ne0.true in
     (c.unwritten.ensures ∙ r.0, r.1)
 
-returns-2 : tie.Need-returns-2
+returns-2 : tie.Need-returns-then-frame-eq0
 returns-2 c =
-    let t = c.before in
-    let l = t.before.before.before.before in
-    let i = l.before.before in
-    let a = (start i).args in
-    let r = refused-late a.pds.now a.form a.scale a.number a.store.now a.values.now a.marks.now a.out.now _ i.before.before.before.before.before.grid-from.ensures _ i.before.before.before.before.the-grid.ensures _ i.before.before.before.points.ensures _ i.before.before.judge.ensures i.if1.false _ l.lay.ensures.0 t.if2.true _ l.lay.ensures.1 in
+    let a = c.args in
+    let r = refused-late a.pds.now a.form a.scale a.number a.store.now a.values.now a.marks.now a.out.now _ c.grid_from-found.ensures _ c.the_grid.ensures _ c.points-n.ensures _ c.judge-refusal.ensures c.if-refusal-ne0.false _ c.lay-frame.ensures.0 c.if-frame-eq0.true _ c.lay-frame.ensures.1 in
     (c.written.ensures ∙ r.0, r.1)
 
-sub-end : tie.Need-overflow-sub-end
+sub-end : tie.Need-overflow_sub-end
 sub-end c = omega (arith, (room c.before).end)
 
-sub-put-values : tie.Need-overflow-sub-put-values
-sub-put-values c = omega (arith, (room c.before).start, (laid c.before).lay.auto)
+sub-put-values : tie.Need-slice_bounds-put_values-count
+sub-put-values c = omega (arith, (room c.before).start, c.lay-frame.auto.out)
 
-part-put-values-start : tie.Need-slice-bounds-put-values-start
-part-put-values-start c = omega (arith, (room c.before).start, (laid c.before).lay.auto)
+part-put-values-start : tie.Need-slice_bounds-put_values-start
+part-put-values-start c = omega (arith, (room c.before).start, c.lay-frame.auto.out)
 
-put-values-requires : tie.Need-put-values-requires
+put-values-requires : tie.Need-put_values-requires
 put-values-requires c κs =
-    let e = c.before.before in
-    let l = laid e in
-    let q = room e in (
+    let q = room c.before.before in (
       q.bits,
       (
         q.listed,
         (
           q.present,
           omega
-              (arith, q.data_room, l.lay.kept, part_length l.lay.last.1.1.1.1.1.0 l.lay.result.at),
+              (arith, q.data_room, c.lay-frame.auto.out, part_length c.lay-frame.new.out c.lay-frame.result.at),
         ),
       ),
     )
 
-returns-3 : tie.Need-returns-3
+returns-3 : tie.Need-returns
 returns-3 c =
-    let f = c.before.before.before in
-    let v = f.before.before.before.before in
-    let e = v.before.before.before in
-    let l = laid e in
-    let i = l.before.before in
-    let a = (start i).args in
-    let r = written a.pds.now a.form a.scale a.number a.store.now a.values.now a.marks.now a.out.now _ i.before.before.before.before.before.grid-from.ensures _ i.before.before.before.before.the-grid.ensures _ i.before.before.before.points.ensures _ i.before.before.judge.ensures i.if1.left _ l.lay.ensures.0 e.if2.false _ l.lay.ensures.1 _ v.put-values.ensures _ f.put_four.ensures.1 in
-    (c.written2.ensures ∙ r.0, r.1)
+    let a = c.args in
+    let r = written a.pds.now a.form a.scale a.number a.store.now a.values.now a.marks.now a.out.now _ c.grid_from-found.ensures _ c.the_grid.ensures _ c.points-n.ensures _ c.judge-refusal.ensures c.if-refusal-ne0.false _ c.lay-frame.ensures.0 c.if-frame-eq0.false _ c.lay-frame.ensures.1 _ c.put_values.ensures _ c.put_four.ensures.1 in
+    (c.written-2.ensures ∙ r.0, r.1)
 
 pub write_spec : {M : Type 1} → statement M
 write_spec =

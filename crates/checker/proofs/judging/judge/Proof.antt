@@ -30,24 +30,24 @@ cast-n c = record { fits = omega (arith, (good c).most) }
 
 any-far-requires : tie.Need-any_far-out-requires
 any-far-requires c κs =
-    let f = start c.before.before.before.before.before.before.before.before.before.before.before in (
+    let f = start c.before.before.before.before.before.before.before.before.before.before.before.before in (
       (
-        c.step_of_lem.ensures.0,
+        c.step_of.ensures.0,
         (
-          bits_most _ _ _ f.pre.0 f.pre.1,
-          data_early _ _ _ f.pre.0 f.pre.1 _ c.data_place-from.ensures,
+          bits_most _ _ _ f.requires.0 f.requires.1,
+          data_early _ _ _ f.requires.0 f.requires.1 _ c.data_place-from.ensures,
         ),
       ),
-      ((good c.before.before.before.before.before.before.before.before.before.before).lists, (good c.before.before.before.before.before.before.before.before.before.before).most),
+      ((good c.before.before.before.before.before.before.before.before.before.before.before).lists, (good c.before.before.before.before.before.before.before.before.before.before.before).most),
     )
 
 returns-2 : tie.Need-returns
 returns-2 c =
-    let f = start c.before.before.before.before.before.before.before.before.before.before.before.before.before.before.before.before.before in
+    let f = start c.before.before.before.before.before.before.before.before.before.before.before.before.before.before.before.before.before.before in
     let a = f.args in
-    let r = to_z-of_z {c.before.before.before.before.before.before.before = w32} {z = c.whole_of.result} (record { sfits = c.whole_of.type_inv }) ∙ c.whole_of.ensures in
+    let r = to_z-of_z {w = w32} {z = c.whole_of.result} (record { sfits = c.whole_of.type_inv }) ∙ c.whole_of.ensures in
     first_of a.s.now _ a.numbers.now a.marks.now a.d _ (c.source_bad.ensures a.d)
-    c.if-source_bad.false _ f.pre.0 f.pre.1 _ (to_z-of_z f.fits.d) _ r _ c.step_of_lem.ensures.1
+    c.if-source_bad.false _ f.requires.0 f.requires.1 _ (to_z-of_z f.ranges.d) _ r _ c.step_of.ensures.1
     _ c.marks_differ-unlike.ensures _ c.decimal_differs.ensures _ c.data_place-from.ensures _
     c.any_far-out.ensures _ c.scale_bad.ensures _ _ _ _
     c.refusal-none.ensures c.refuse.ensures

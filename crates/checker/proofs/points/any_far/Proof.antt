@@ -52,12 +52,12 @@ block-far-requires c κs =
     let l = c.loop-i in
     let f = start c.before.before.before in
     let few = c.next_few-c.ensures.1.0 in (
-      (f.pre.0.0, f.pre.0.1.0),
+      (f.requires.0.0, f.requires.0.1.0),
       (
         λ h j k. present-all f.args.marks.now (length f.args.numbers.now)
             (sym c.all_present-all.ensures ∙ h) (l.i + j) (omega (arith, k, long c.before.before.before, inside c.before.before.before)),
         (
-          omega (arith, long c.before.before.before, inside c.before.before.before, f.pre.1.0),
+          omega (arith, long c.before.before.before, inside c.before.before.before, f.requires.1.0),
           (
             omega (arith, long c.before.before.before, few, l.invariant.1.0),
             (omega (arith, long c.before.before.before, few, l.invariant.1.1.0), omega (arith, long c.before.before.before, few)),
@@ -76,12 +76,12 @@ loop-again c =
     let i = l.invariant.1.1.1 in
     let a = (start c.before.before.before.before.before.before.before).args in
     let p = (start c.before.before.before.before.before.before.before).requires in
-    let k = c.block_far-turn.auto.chosen in (
+    let k = c.block_far-turn.auto in (
       inside c.before.before.before.before.before.before.before,
       (
-        k.0 ∙ l.invariant.1.0,
+        k.chosen ∙ l.invariant.1.0,
         (
-          k.1.0 ∙ l.invariant.1.1.0,
+          k.held ∙ l.invariant.1.1.0,
           (
             place-next a.numbers.now a.marks.now a.from a.n l.i c.next_few-c.result (inside c.before.before.before.before.before.before.before) _ _
                 i.0 c.block_far-turn.ensures.0 p.0.1.1 p.1.1 p.0.1.0,

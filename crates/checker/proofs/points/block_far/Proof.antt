@@ -27,12 +27,12 @@ gathered : (g : tie.After-gather_numbers-m)
 gathered g =
     let f = start g in
     gathered-block f.args.numbers.now f.args.marks.now f.args.i _ f.args.chosen.now _
-    f.pre.1.1.0 f.pre.1.1.1.0 g.gather_numbers-m.ensures.0 g.gather_numbers-m.ensures.1
+    f.requires.1.1.0 f.requires.1.1.1.0 g.gather_numbers-m.ensures.0 g.gather_numbers-m.ensures.1
 
 far-at-requires-2 : tie.Need-far_at-requires-2
 far-at-requires-2 c κs =
-    let p = (start c.before.before.before).requires in
-    let m = no_more _ _ _ _ _ (gathered c.before.before.before) in (
+    let p = (start c.before.before).requires in
+    let m = no_more _ _ _ _ _ (gathered c.before.before) in (
       p.0,
       (
         omega (arith, m, p.1.1.1.0, c.gather_numbers-m.auto.held),
@@ -42,11 +42,11 @@ far-at-requires-2 c κs =
 
 returns-2 : tie.Need-returns
 returns-2 c =
-    let f = start c.before.before.before.before.before.before in
+    let f = start c.before.before.before.before.before in
     let a = f.args in (
-      c.far_at-2.ensures.0 ∙ ap (λ (x : ℕ). reached a.at (x * a.n)) (gathered c.before.before.before.before.before.before).many,
+      c.far_at-2.ensures.0 ∙ ap (λ (x : ℕ). reached a.at (x * a.n)) (gathered c.before.before.before.before.before).many,
       some_out a.s.now a.numbers.now a.marks.now a.i a.at a.n _ _
-          (to_z-of_z f.fits.r) a.e _ _ (gathered c.before.before.before.before.before.before) _ c.far_at-2.ensures.1,
+          (to_z-of_z f.ranges.r) a.e _ _ (gathered c.before.before.before.before.before) _ c.far_at-2.ensures.1,
     )
 
 pub block_far_spec : {M : Type 1} → statement M

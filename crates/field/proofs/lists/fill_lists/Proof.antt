@@ -9,10 +9,9 @@ sub-some-present : tie.Need-slice_bounds-some_present-count
 sub-some-present c =
     P.starts _ _ _ _ _ _ c.requires.1.0 c.requires.1.1.0 c.in-Carried.is
 
-part-some-present-start : tie.Need-slice-bounds-some-present-start
+part-some-present-start : tie.Need-slice_bounds-some_present-start
 part-some-present-start c =
-    let g = c.before.before.before.before.before.before.before in
-    P.starts _ _ _ _ _ _ g.requires.1.0 g.requires.1.1.0 c.enum-told2.given.1
+    P.starts _ _ _ _ _ _ c.requires.1.0 c.requires.1.1.0 c.in-Carried.is
 
 some-present-requires : tie.Need-some_present-requires
 some-present-requires c κs =

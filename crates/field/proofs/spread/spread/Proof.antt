@@ -68,7 +68,7 @@ loop2-again c =
       omega arith,
       (
         s.ensures.0,
-        s.auto.1.0
+        s.auto.values
             ∙ l.invariant.1.1,
         λ v d. s.ensures.1 v
             (subst (Down (bits_in 8 a.bitmap.now) a.n v l.values) e (l.invariant.1.2 v d)),

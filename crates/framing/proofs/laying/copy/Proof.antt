@@ -11,25 +11,25 @@ use Rattle.framing.proofs.Placing.{copied}
 use Rattle.framing.proofs.laying.copy.Statement.{statement}
 use Rattle.framing.proofs.laying.copy.Tie as tie
 
-abbrev invariant-loop : tie.invariant-loop
+abbrev invariant-loop : tie.invariant-loop-i
 invariant-loop s out₀ at i₀ out i = (i ≤ length s) × (length out ≡ length out₀) × (out ≡ placed out₀ at (take i s))
 
-abbrev decreases-loop : tie.decreases-loop
+abbrev decreases-loop : tie.decreases-loop-i
 decreases-loop s out₀ at i₀ out i = length s - i
 
-loop-holds : tie.Need-loop-init invariant-loop decreases-loop
+loop-holds : tie.Need-loop-i-init invariant-loop decreases-loop
 loop-holds c = (omega arith, refl, sym (placed-none _ _))
 
-loop-again : tie.Need-loop-preserved invariant-loop decreases-loop
+loop-again : tie.Need-loop-i-preserved invariant-loop decreases-loop
 loop-again c =
-    let l = c.before.before.loop in
-    (omega arith, simp length-set l.invariant.1, copied _ _ _ _ _ c.before.loop-test.true (omega arith) l.invariant.2)
+    let l = c.loop-i in
+    (omega arith, simp length-set l.invariant.1, copied _ _ _ _ _ c.loop-i-test.true (omega arith) l.invariant.2)
 
 returns : tie.Need-returns invariant-loop decreases-loop
 returns c =
-    let a = c.before.before.args in
-    let e : c.before.loop.i ≡ length a.s.now = omega arith in
-    c.before.loop.invariant.2 ∙ ap (λ (n : ℕ). placed a.out.now a.at (take n a.s.now)) e
+    let a = c.args in
+    let e : c.loop-i.i ≡ length a.s.now = omega arith in
+    c.loop-i.invariant.2 ∙ ap (λ (n : ℕ). placed a.out.now a.at (take n a.s.now)) e
     ∙ ap (placed a.out.now a.at) (take-length a.s.now)
 
 pub copy_spec : {M : Type 1} → statement M

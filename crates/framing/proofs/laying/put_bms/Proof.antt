@@ -8,14 +8,11 @@ use Rattle.framing.proofs.laying.put_bms.Tie as tie
 
 returns : tie.Need-returns
 returns c =
-    let d3 = c.before.before in
-    let d2 = d3.before.before.before.before in
-    let d1 = d2.before.before.before.before in
-    let a = d1.before.before.before.args in
+    let a = c.args in
     let l0 = laid_none a.out.now a.b 6 (omega arith) in
-    let l1 = put l0 _ _ _ _ _ d1.put_three.ensures.1 (omega arith) (omega arith) (omega arith) in
-    let l2 = put l1 _ _ _ _ _ d2.put-octet.ensures.1 (omega arith) (omega arith) (omega arith) in
-    let l3 = put l2 _ _ _ _ _ d3.put_two.ensures.1 (omega arith) (omega arith) (omega arith) in
+    let l1 = put l0 _ _ _ _ _ c.put_three.ensures.1 (omega arith) (omega arith) (omega arith) in
+    let l2 = put l1 _ _ _ _ _ c.put_octet.ensures.1 (omega arith) (omega arith) (omega arith) in
+    let l3 = put l2 _ _ _ _ _ c.put_two.ensures.1 (omega arith) (omega arith) (omega arith) in
     l3.is
 
 pub put_bms_spec : {M : Type 1} → statement M

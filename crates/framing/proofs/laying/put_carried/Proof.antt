@@ -9,10 +9,10 @@ use Rattle.framing.proofs.laying.put_carried.Tie as tie
 
 returns : tie.Need-returns
 returns c =
-    let a = c.before.before.before.before.before.before.before.before.before.before.before.args in
+    let a = c.args in
     carried-placed a.out.now a.marks.now a.b _ _ _
-    c.before.before.before.before.before.before.before.before.carried-room.ensures refl (omega arith) _ _
-    c.before.before.before.before.before.before.put-bms.ensures c.before.before.put.ensures.1
+    c.carried_room-len.ensures refl (omega arith) _ _
+    c.put_bms.ensures c.put.ensures.1
 
 pub put_carried_spec : {M : Type 1} → statement M
 put_carried_spec =

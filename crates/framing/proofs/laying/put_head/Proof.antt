@@ -14,48 +14,44 @@ use Rattle.framing.proofs.laying.put_head.Tie as tie
 held : (b : tie.Start) → Held b.args.packing.bits b.args.m
 held b = bds-held b.args.packing.bits b.args.m b.requires.0 b.requires.1.1.1.0
 
-sub-unused : tie.Need-overflow-sub-unused
+sub-unused : tie.Need-overflow_sub-unused
 sub-unused c = let h = held c.before.before in omega arith
 
-mul-unused : tie.Need-overflow-mul-unused
+mul-unused : tie.Need-overflow_mul-unused
 mul-unused c = let h = held c.before.before in omega arith
 
-mul-unused-2 : tie.Need-overflow-mul-unused-2
+mul-unused-2 : tie.Need-overflow_mul-unused-2
 mul-unused-2 c = let h = held c.before.before in omega arith
 
-sub-unused-2 : tie.Need-overflow-sub-unused-2
+sub-unused-2 : tie.Need-overflow_sub-unused-2
 sub-unused-2 c = let h = held c.before.before in omega arith
 
-cast-flags : tie.Need-overflow-cast-flags
+cast-flags : tie.Need-overflow_cast-flags
 cast-flags c = let h = held c.before.before.before in omega arith
 
-add-flags : tie.Need-overflow-add-flags
+add-flags : tie.Need-overflow_add-flags
 add-flags c = let h = held c.before.before.before in omega arith
 
-cast-put-bds : tie.Need-overflow-cast-put-bds
+cast-put-bds : tie.Need-overflow_cast-len
 cast-put-bds c = let h = held c.before.before.before.before in omega arith
 
-put-bds-requires : tie.Need-put-bds-requires
-put-bds-requires c κs = let h = held c.before.before.before.before in (omega arith, (omega arith, omega arith))
+put-bds-requires : tie.Need-put_bds-requires
+put-bds-requires c κs = let h = held c.before.before.before.before.before in (omega arith, (omega arith, omega arith))
 
-sub-put-octet : tie.Need-overflow-sub-put-octet
-sub-put-octet c = let h = held c.before.before.before.before.before.before.before.before in omega arith
+sub-put-octet : tie.Need-overflow_sub-len
+sub-put-octet c = let h = held c.before.before.before.before.before.before.before.before.before in omega arith
 
-add-put-octet : tie.Need-overflow-add-put-octet
-add-put-octet c = let h = held c.before.before.before.before.before.before.before.before in omega arith
+add-put-octet : tie.Need-overflow_add-d
+add-put-octet c = let h = held c.before.before.before.before.before.before.before.before.before in omega arith
 
 returns : tie.Need-returns
 returns c =
-    let d2 = c.before.before in
-    let d1 = d2.before.before.before.before in
-    let r = d1.before.before.before in
-    let b = r.before.before in
-    let a = b.args in
-    let h = held b in
-    head_placed a.out.now a.packing a.scale a.d a.m r.bds-room.result
-    (a.packing.flags * 16 + (8 * (r.bds-room.result - bds_head) - a.m * a.packing.bits))
-    r.bds-room.ensures (omega arith) refl _ _ d1.put-bds.auto.0 (omega arith) d1.put-bds.ensures
-    d2.put-octet.ensures.1
+    let a = c.args in
+    let h = held c.before.before.before.before.before.before.before.before.before.before.before.before in
+    head_placed a.out.now a.packing a.scale a.d a.m c.bds_room-len.result
+    (a.packing.flags * 16 + (8 * (c.bds_room-len.result - bds_head) - a.m * a.packing.bits))
+    c.bds_room-len.ensures (omega arith) refl _ _ c.put_bds.auto.out (omega arith) c.put_bds.ensures
+    c.put_octet.ensures.1
 
 pub put_head_spec : {M : Type 1} → statement M
 put_head_spec =

@@ -8,14 +8,11 @@ use Rattle.framing.proofs.laying.put_indicator.Tie as tie
 
 returns : tie.Need-returns
 returns c =
-    let c3 = c.before.before in
-    let c2 = c3.before.before.before.before in
-    let c1 = c2.before.before.before.before in
-    let a = c1.before.before.before.args in
+    let a = c.args in
     let l0 = laid_none a.out.now 0 8 (omega arith) in
-    let l1 = put l0 _ _ _ _ _ c1.put_four.ensures.1 (omega arith) (omega arith) (omega arith) in
-    let l2 = put l1 _ _ _ _ _ c2.put_three.ensures.1 (omega arith) (omega arith) (omega arith) in
-    let l3 = put l2 _ _ _ _ _ c3.put-octet.ensures.1 (omega arith) (omega arith) (omega arith) in
+    let l1 = put l0 _ _ _ _ _ c.put_four.ensures.1 (omega arith) (omega arith) (omega arith) in
+    let l2 = put l1 _ _ _ _ _ c.put_three.ensures.1 (omega arith) (omega arith) (omega arith) in
+    let l3 = put l2 _ _ _ _ _ c.put_octet.ensures.1 (omega arith) (omega arith) (omega arith) in
     l3.is
 
 pub put_indicator_spec : {M : Type 1} → statement M

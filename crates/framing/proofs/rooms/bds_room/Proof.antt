@@ -6,13 +6,13 @@ use Prim.Native.Nat.{◌-◌}
 use Rattle.framing.proofs.rooms.bds_room.Statement.{statement}
 use Rattle.framing.proofs.rooms.bds_room.Tie as tie
 
-mul-even : tie.Need-overflow-mul-even
+mul-even : tie.Need-overflow_mul-m
 mul-even c = let p = bits-few c.args.bits c.args.m (omega arith) (omega arith) in omega arith
 
-add-even : tie.Need-overflow-add-even
+add-even : tie.Need-overflow_add-m
 add-even c = let p = bits-few c.args.bits c.args.m (omega arith) (omega arith) in omega arith
 
-add-even-2 : tie.Need-overflow-add-even-2
+add-even-2 : tie.Need-overflow_add-m-2
 add-even-2 c = let p = bits-few c.args.bits c.args.m (omega arith) (omega arith) in omega arith
 
 even-requires : tie.Need-even-requires

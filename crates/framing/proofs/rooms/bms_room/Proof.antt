@@ -5,17 +5,17 @@ use borrow.Author.Rules.{rules}
 use Rattle.framing.proofs.rooms.bms_room.Statement.{statement}
 use Rattle.framing.proofs.rooms.bms_room.Tie as tie
 
-returns : tie.Need-returns
+returns : tie.Need-returns-in-Without
 unfolding the_bms_room
-returns c = rw c.enum_told.given.1
+returns c = rw c.in-Without.is
 
-returns-2 : tie.Need-returns-2
+returns-2 : tie.Need-returns-in-Carried
 unfolding the_bms_room
-returns-2 c = rw c.before.enum-told2.given.1 c.carried-room.ensures
+returns-2 c = rw c.in-Carried.is c.carried_room.ensures
 
-returns-3 : tie.Need-returns-3
+returns-3 : tie.Need-returns-in-Stored
 unfolding the_bms_room
-returns-3 c = rw c.enum-told3.given.1
+returns-3 c = rw c.in-Stored.is
 
 pub bms_room_spec : {M : Type 1} → statement M
 bms_room_spec =

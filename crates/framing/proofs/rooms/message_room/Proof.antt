@@ -7,45 +7,45 @@ use borrow.Author.Rules.{rules}
 use Rattle.framing.proofs.rooms.message_room.Statement.{statement}
 use Rattle.framing.proofs.rooms.message_room.Tie as tie
 
-add-result : tie.Need-overflow-add-result
+add-result : tie.Need-overflow_add-result
 add-result c =
-    let a = c.before.before.args in
+    let a = c.args in
     let g = gds-few a.form.grid in
     let e = gds-room a.form.grid in
     let b = bms-few a.form.bitmap a.n (omega arith) in
     let d = bds-few a.form.packing.bits a.m (omega arith) (omega arith) in
     omega arith
 
-add-result-2 : tie.Need-overflow-add-result-2
+add-result-2 : tie.Need-overflow_add-result-2
 add-result-2 c =
-    let a = c.before.before.args in
+    let a = c.args in
     let g = gds-few a.form.grid in
     let e = gds-room a.form.grid in
     let b = bms-few a.form.bitmap a.n (omega arith) in
     let d = bds-few a.form.packing.bits a.m (omega arith) (omega arith) in
     omega arith
 
-add-result-3 : tie.Need-overflow-add-result-3
+add-result-3 : tie.Need-overflow_add-result-3
 add-result-3 c =
-    let a = c.before.before.args in
+    let a = c.args in
     let g = gds-few a.form.grid in
     let e = gds-room a.form.grid in
     let b = bms-few a.form.bitmap a.n (omega arith) in
     let d = bds-few a.form.packing.bits a.m (omega arith) (omega arith) in
     omega arith
 
-add-result-4 : tie.Need-overflow-add-result-4
+add-result-4 : tie.Need-overflow_add-result-4
 add-result-4 c =
-    let a = c.before.before.before.args in
+    let a = c.args in
     let g = gds-few a.form.grid in
     let e = gds-room a.form.grid in
     let b = bms-few a.form.bitmap a.n (omega arith) in
     let d = bds-few a.form.packing.bits a.m (omega arith) (omega arith) in
     omega arith
 
-add-result-5 : tie.Need-overflow-add-result-5
+add-result-5 : tie.Need-overflow_add-result-5
 add-result-5 c =
-    let a = c.before.before.before.args in
+    let a = c.args in
     let g = gds-few a.form.grid in
     let e = gds-room a.form.grid in
     let b = bms-few a.form.bitmap a.n (omega arith) in
@@ -55,7 +55,7 @@ add-result-5 c =
 returns : tie.Need-returns
 unfolding the_message_room front_room
 returns c =
-    let e = gds-room c.before.before.before.args.form.grid in
+    let e = gds-room c.args.form.grid in
     omega arith
 
 pub message_room_spec : {M : Type 1} → statement M

@@ -6,26 +6,26 @@ use Rattle.listing.proofs.Cells.{cell-here, cell-none}
 use Rattle.listing.proofs.rows.cell.Statement.{statement}
 use Rattle.listing.proofs.rows.cell.Tie as tie
 
-returns : tie.Need-returns
+returns : tie.Need-returns-then-present
 returns c =
-    let a = c.before.before.before.before.before.before.before.before.before.before.args in
+    let a = c.args in
     cell-here _ _ _ _ a.values.now a.marks.now a.i a.stop
-    (sym c.before.before.before.before.before.before.present.ensures
-    ∙ c.before.before.before.before.before.if1.true) c.before.before.number.ensures.0
+    (sym c.present.ensures
+    ∙ c.if-present.true) c.number.ensures.0
 
-letter-requires : tie.Need-letter-requires
+letter-requires : tie.Need-letter-next-requires
 letter-requires c κs = omega arith
 
-letter-requires-2 : tie.Need-letter-requires-2
+letter-requires-2 : tie.Need-letter-requires
 letter-requires-2 c κs = omega arith
 
-returns-2 : tie.Need-returns-2
+returns-2 : tie.Need-returns
 returns-2 c =
-    let a = c.before.before.before.before.before.before.before.before.before.before.before.before.before.args in
+    let a = c.args in
     cell-none _ _ _ _ _ _ a.values.now a.marks.now a.i a.stop
-    (sym c.before.before.before.before.before.before.before.before.before.present.ensures
-    ∙ c.before.before.before.before.before.before.before.before.if1.false)
-    c.before.before.before.before.before.before.letter.ensures c.before.before.letter2.ensures
+    (sym c.present.ensures
+    ∙ c.if-present.false)
+    c.letter-next.ensures c.letter.ensures
     (omega arith)
 
 pub cell_spec : {M : Type 1} → statement M

@@ -4,16 +4,14 @@ use Rattle.listing.proofs.Cells.{point_at, never_off}
 use Rattle.listing.proofs.rows.point.Statement.{statement}
 use Rattle.listing.proofs.rows.point.Tie as tie
 
-returns : tie.Need-returns
+returns : tie.Need-returns-in-At
 returns c =
-    let a = c.before.before.before.before.before in
-    point_at _ _ a.requires.0 a.requires.1 _ _ c.before.before.before.before.point_at.ensures
-    c.before.before.p.given.1
+    point_at _ _ c.requires.0 c.requires.1 _ _ c.point_at-p.ensures
+    c.in-At.is
 
-returns-2 : tie.Need-returns-2
+returns-2 : tie.Need-returns-in-Off
 returns-2 c =
-    let a = c.before.before.before in
-    absurd (never_off _ _ a.requires.0 a.requires.1 _ c.before.before.point_at.ensures c.enum_told.given.1)
+    absurd (never_off _ _ c.requires.0 c.requires.1 _ c.point_at-p.ensures c.in-Off.is)
 
 pub point_spec : {M : Type 1} → statement M
 point_spec =

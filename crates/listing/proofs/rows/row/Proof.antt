@@ -12,39 +12,39 @@ use Rattle.listing.proofs.Cells.{word, word-most, here-most, cell_turn, row_done
 use Rattle.listing.proofs.rows.row.Statement.{statement}
 use Rattle.listing.proofs.rows.row.Tie as tie
 
-abbrev invariant-loop : tie.invariant-loop
+abbrev invariant-loop : tie.invariant-loop-c
 invariant-loop text₀ at values marks g r wide next₀ c₀ text next c =
     (c ≤ the_row_long g r) × ((length text ≡ length text₀) × Wrote text₀ text at next (joined_to (word values marks g r) c))
 
-abbrev decreases-loop : tie.decreases-loop
+abbrev decreases-loop : tie.decreases-loop-c
 decreases-loop text₀ at values marks g r wide next₀ c₀ text next c = the_row_long g r - c
 
-loop-holds : tie.Need-loop-init invariant-loop decreases-loop
+loop-holds : tie.Need-loop-c-init invariant-loop decreases-loop
 unfolding joined_to
 loop-holds c = (omega arith, (refl, wrote_none _ _))
 
-cell-requires : tie.Need-cell-requires invariant-loop decreases-loop
+cell-requires : tie.Need-cell-next-requires invariant-loop decreases-loop
 cell-requires c κs =
-    let l = c.before.before.before.before.loop in
-    let a = c.before.before.before.before.before.before.before.before.before.args in
+    let l = c.loop-c in
+    let a = c.args in
     let m = joined-most (word a.values.now a.marks.now a.g a.r) 11 (word-most a.values.now a.marks.now a.g a.r) l.c in
     (omega arith, omega arith)
 
-loop-again : tie.Need-loop-preserved invariant-loop decreases-loop
+loop-again : tie.Need-loop-c-preserved invariant-loop decreases-loop
 loop-again c =
-    let l = c.before.before.before.before.before.before.before.loop in
-    let a = c.before.before.before.before.before.before.before.before.before.before.before.before.args in
+    let l = c.loop-c in
+    let a = c.args in
     let w = word a.values.now a.marks.now a.g a.r in
-    let k = here-most a.values.now a.marks.now c.before.before.before.before.before.point.result c.before.before.before.stop.result in
+    let k = here-most a.values.now a.marks.now c.point-i.result c.stop.result in
     let m = joined-most w 11 (word-most a.values.now a.marks.now a.g a.r) l.c in
-    let n = cell_turn _ _ _ _ _ _ a.values.now a.marks.now a.g a.r l.c _ _ l.invariant.1.1 c.before.before.cell.ensures c.before.before.before.before.before.point.ensures.0 (c.before.before.before.stop.ensures ∙ ap (λ (x : ℕ). stop x l.c) c.before.before.before.before.before.before.before.before.row-long.ensures) (omega arith) in
+    let n = cell_turn _ _ _ _ _ _ a.values.now a.marks.now a.g a.r l.c _ _ l.invariant.1.1 c.cell-next.ensures c.point-i.ensures.0 (c.stop.ensures ∙ ap (λ (x : ℕ). stop x l.c) c.row_long-wide.ensures) (omega arith) in
     (omega arith, (omega arith, n))
 
 returns : tie.Need-returns invariant-loop decreases-loop
 returns c =
-    let a = c.before.before.before.before.before.before.args in
-    let e : c.before.loop.c ≡ the_row_long a.g a.r = omega arith in
-    row_done _ _ _ _ a.values.now a.marks.now a.g a.r _ e c.before.loop.invariant.1.1
+    let a = c.args in
+    let e : c.loop-c.c ≡ the_row_long a.g a.r = omega arith in
+    row_done _ _ _ _ a.values.now a.marks.now a.g a.r _ e c.loop-c.invariant.1.1
 
 pub row_spec : {M : Type 1} → statement M
 row_spec =

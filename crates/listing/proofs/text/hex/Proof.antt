@@ -7,13 +7,13 @@ use Rattle.listing.proofs.text.hex.Statement.{statement}
 use Rattle.listing.proofs.text.hex.Tie as tie
 
 letter-requires : tie.Need-letter-requires
-letter-requires c κs = omega (arith, length-numeral 16 8 c.before.before.before.before.before.before.args.n)
+letter-requires c κs = omega (arith, length-numeral 16 8 c.args.n)
 
 returns : tie.Need-returns
 returns c =
-    let m = length-numeral 16 8 c.before.before.before.before.before.before.before.before.before.args.n in (
-      wrote_next (hex_done _ _ _ _ _ c.before.before.before.before.before.before.numeral.ensures)
-          c.before.before.letter.ensures (omega arith),
+    let m = length-numeral 16 8 c.args.n in (
+      wrote_next (hex_done _ _ _ _ _ c.numeral-next.ensures)
+          c.letter.ensures (omega arith),
       omega arith,
     )
 

@@ -7,13 +7,13 @@ use Rattle.listing.proofs.text.number.Statement.{statement}
 use Rattle.listing.proofs.text.number.Tie as tie
 
 letter-requires : tie.Need-letter-requires
-letter-requires c κs = omega (arith, decimal-most c.before.before.before.before.before.before.args.n)
+letter-requires c κs = omega (arith, decimal-most c.args.n)
 
 returns : tie.Need-returns
 returns c =
-    let m = decimal-most c.before.before.before.before.before.before.before.before.before.args.n in (
-      wrote_next c.before.before.before.before.before.before.decimal.ensures
-          c.before.before.letter.ensures (omega arith),
+    let m = decimal-most c.args.n in (
+      wrote_next c.decimal-next.ensures
+          c.letter.ensures (omega arith),
       omega arith,
     )
 

@@ -13,31 +13,31 @@ use Rattle.listing.proofs.Digits.{place, weight_next, weight_pos, digit_turn, nu
 use Rattle.listing.proofs.text.numeral.Statement.{statement}
 use Rattle.listing.proofs.text.numeral.Tie as tie
 
-abbrev invariant-loop : tie.invariant-loop
+abbrev invariant-loop : tie.invariant-loop-j
 invariant-loop text₀ at base c power n weight₀ j₀ text weight j =
     (weight ≡ base ^ (c - j))
     × ((j ≤ c) × ((length text ≡ length text₀) × Wrote text₀ text at (at + j) (tab (place base c n) j)))
 
-abbrev decreases-loop : tie.decreases-loop
+abbrev decreases-loop : tie.decreases-loop-j
 decreases-loop text₀ at base c power n weight₀ j₀ text weight j = c - j
 
-loop-holds : tie.Need-loop-init invariant-loop decreases-loop
+loop-holds : tie.Need-loop-j-init invariant-loop decreases-loop
 unfolding tab
 loop-holds c = (
-  c.before.requires.1.1.0
-      ∙ ap (λ (x : ℕ). c.before.args.base ^ x) (sym (sub-zero c.before.args.c)),
+  c.requires.1.1.0
+      ∙ ap (λ (x : ℕ). c.args.base ^ x) (sym (sub-zero c.args.c)),
   (omega arith, (refl, wrote_start _ _)),
 )
 
-div-digit : tie.Need-nonzero-div-digit invariant-loop decreases-loop
-div-digit c = weight_pos _ _ _ _ (omega arith) (omega arith) c.before.loop.invariant.0
+div-digit : tie.Need-nonzero_div-n invariant-loop decreases-loop
+div-digit c = weight_pos _ _ _ _ (omega arith) (omega arith) c.loop-j.invariant.0
 
 digit-requires : tie.Need-digit-requires invariant-loop decreases-loop
 digit-requires c κs = lt_of_lt_of_le (mod-lt _ (omega arith)) (omega arith)
 
-loop-again : tie.Need-loop-preserved invariant-loop decreases-loop
+loop-again : tie.Need-loop-j-preserved invariant-loop decreases-loop
 loop-again c =
-    let l = c.before.before.loop in (
+    let l = c.loop-j in (
       weight_next _ _ _ _ (omega arith) (omega arith) l.invariant.0,
       (
         omega arith,
@@ -50,7 +50,7 @@ loop-again c =
     )
 
 returns : tie.Need-returns invariant-loop decreases-loop
-returns c = numeral-done _ _ _ _ _ _ _ (omega arith) c.before.loop.invariant.1.1.1
+returns c = numeral-done _ _ _ _ _ _ _ (omega arith) c.loop-j.invariant.1.1.1
 
 pub numeral_spec : {M : Type 1} → statement M
 numeral_spec =

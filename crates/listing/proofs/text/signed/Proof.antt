@@ -5,22 +5,22 @@ use Rattle.listing.proofs.Signs.{sign-taken, sign-left}
 use Rattle.listing.proofs.text.signed.Statement.{statement}
 use Rattle.listing.proofs.text.signed.Tie as tie
 
-returns : tie.Need-returns
+returns : tie.Need-returns-then-z-lt0
 returns c =
-    let a = c.before.before.before.before.before.before.before.before.before.before.before in (
-      sign-taken _ _ _ _ _ _ _ _ _ a.ranges.z
-          c.before.before.before.before.before.before.before.before.before.if1.true
-          c.before.before.before.magnitude.ensures
-          c.before.before.before.before.before.before.before.letter.ensures
-          c.before.before.number.ensures.0 (omega arith),
+    (
+      sign-taken _ _ _ _ _ _ _ _ _ c.ranges.z
+          c.if-z-lt0.true
+          c.magnitude.ensures
+          c.letter-next.ensures
+          c.number.ensures.0 (omega arith),
       omega arith,
     )
 
-returns-2 : tie.Need-returns-2
+returns-2 : tie.Need-returns
 returns-2 c =
-    let a = c.before.before.before.before.before.before.before in (
-      sign-left _ _ _ _ _ _ _ a.ranges.z c.before.before.before.before.before.if1.false
-          c.before.before.before.magnitude2.ensures c.before.before.number2.ensures.0,
+    (
+      sign-left _ _ _ _ _ _ _ c.ranges.z c.if-z-lt0.false
+          c.magnitude-2.ensures c.number-2.ensures.0,
       omega arith,
     )
 

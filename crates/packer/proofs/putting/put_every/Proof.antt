@@ -17,11 +17,11 @@ use Rattle.blocks.proofs.Passing.{every-none, every-place, every_more, every-las
 use Rattle.packer.proofs.putting.put_every.Statement.{statement}
 use Rattle.packer.proofs.putting.put_every.Tie as tie
 
-abbrev invariant-loop : tie.invariant-loop
+abbrev invariant-loop : tie.invariant-loop-i
 invariant-loop numbers r e bits held₀ out₀ place₀ i₀ held out place i =
     (i ≤ length numbers) × Passed bits (tab (step_of numbers (to_z w32 r) e) i) out₀ (record { place = place; held = 0 }) held out
 
-abbrev decreases-loop : tie.decreases-loop
+abbrev decreases-loop : tie.decreases-loop-i
 decreases-loop numbers r e bits held₀ out₀ place₀ i₀ held out place i = length numbers - i
 
 -- R as code hands it on, and X by it
@@ -42,66 +42,53 @@ room : (s : tie.Start invariant-loop decreases-loop)
 room s = omega (arith, s.requires.1.1.1)
 
 -- a block more
-after : (k : tie.After-put-last invariant-loop decreases-loop)
-    → let q = k.before.before.before.before.before in let i = q.before.before.before in let l = i.before.loop in let s = i.before.before.before.before in let a = s.args in
-    Passed a.bits (tab (steps s) (l.i + 256)) a.out.now (record { place = l.place + a.bits * 32; held = 0 }) q.scale.new.1.1.1.0 k.put_last.new.1.1.1.0
+after : (k : tie.After-put_last invariant-loop decreases-loop)
+    → let l = k.loop-i in let a = k.args in
+    Passed a.bits (tab (steps k.before.before.before.before.before.before.before.before.before.before.before) (l.i + 256)) a.out.now (record { place = l.place + a.bits * 32; held = 0 }) k.scale.new.xs k.put_last.new.out
 after k =
-    let q = k.before.before.before.before.before in
-    let i = q.before.before.before in
-    let l = i.before.loop in
-    let s = i.before.before.before.before in
-    let a = s.args in
-    let x = q.scale.new.1.1.1.0 in
-    let z : length x ≡ 512 = q.scale.auto.1.1.1.0 ∙ l.invariant.1.size in
-    every_more a.bits (steps s) (length a.numbers.now) s.requires.0 (wide s) a.out.now (room s) l.i
-    l.place l.held x l.out _ (omega (arith, i.loop-test.true, l.invariant.0)) l.invariant.1
-    z (steps_part a.numbers.now (ref s) a.e l.i 256 (l.i + 256 - l.i) l.held x (omega arith)
-    (omega (arith, i.loop-test.true, l.invariant.0)) (omega (arith, l.invariant.1.size)) q.scale.ensures)
+    let l = k.loop-i in
+    let a = k.args in
+    let x = k.scale.new.xs in
+    let z : length x ≡ 512 = k.scale.auto.xs ∙ l.invariant.1.size in
+    every_more a.bits (steps k.before.before.before.before.before.before.before.before.before.before.before) (length a.numbers.now) k.requires.0 (wide k.before.before.before.before.before.before.before.before.before.before.before) a.out.now (room k.before.before.before.before.before.before.before.before.before.before.before) l.i
+    l.place l.held x l.out _ (omega (arith, k.loop-i-test.true, l.invariant.0)) l.invariant.1
+    z (steps_part a.numbers.now (ref k.before.before.before.before.before.before.before.before.before.before.before) a.e l.i 256 (l.i + 256 - l.i) l.held x (omega arith)
+    (omega (arith, k.loop-i-test.true, l.invariant.0)) (omega (arith, l.invariant.1.size)) k.scale.ensures)
     k.put_last.ensures.1
 
-loop-holds : tie.Need-loop-init invariant-loop decreases-loop
+loop-holds : tie.Need-loop-i-init invariant-loop decreases-loop
 loop-holds c =
-    let s = c.before.before in
-    let a = s.args in (
+    let a = c.args in (
       omega arith,
-      every-none a.bits (steps s) (length a.numbers.now) s.requires.0 (wide s) a.out.now (room s)
-          a.held.now s.requires.1.1.0,
+      every-none a.bits (steps c.before.before) (length a.numbers.now) c.requires.0 (wide c.before.before) a.out.now (room c.before.before)
+          a.held.now c.requires.1.1.0,
     )
 
-add-place : tie.Need-overflow-add-place invariant-loop decreases-loop
+add-place : tie.Need-overflow_add-place invariant-loop decreases-loop
 add-place c =
-    let k = c.before.before in
-    let i = k.before.before.before.before.before.before.before.before in
-    let l = i.before.loop in
-    let s = i.before.before.before.before in
-    let a = s.args in
-    let t = every-place a.bits (steps s) (length a.numbers.now) s.requires.0 (wide s) a.out.now (room s) (l.i + 256) _ _ _ (omega (arith, i.loop-test.true, l.invariant.0)) (after k) in
+    let l = c.loop-i in
+    let a = c.args in
+    let t = every-place a.bits (steps c.before.before.before.before.before.before.before.before.before.before.before.before.before) (length a.numbers.now) c.requires.0 (wide c.before.before.before.before.before.before.before.before.before.before.before.before.before) a.out.now (room c.before.before.before.before.before.before.before.before.before.before.before.before.before) (l.i + 256) _ _ _ (omega (arith, c.loop-i-test.true, l.invariant.0)) (after c.before.before) in
     omega (arith, t)
 
-loop-again : tie.Need-loop-preserved invariant-loop decreases-loop
+loop-again : tie.Need-loop-i-preserved invariant-loop decreases-loop
 loop-again c =
-    let k = c.before.before in
-    let i = k.before.before.before.before.before.before.before.before in
-    (omega (arith, i.loop-test.true, i.before.loop.invariant.0), after k)
+    (omega (arith, c.loop-i-test.true, c.loop-i.invariant.0), after c.before.before)
 
 returns : tie.Need-returns invariant-loop decreases-loop
 returns c =
-    let k = c.before.before in
-    let q = k.before.before.before.before.before in
-    let h = q.before.before.before in
-    let l = h.before.loop in
-    let s = h.before.before.before.before in
-    let a = s.args in
+    let l = c.loop-i in
+    let a = c.args in
     let N = length a.numbers.now in
-    let x = q.scale2.new.1.1.1.0 in
-    let z : length x ≡ 512 = q.scale2.auto.1.1.1.0 ∙ l.invariant.1.size in
-    every-last a.bits (steps s) N s.requires.0 (wide s) a.out.now (room s) l.i (N - l.i) l.place l.held
-    x l.out _ (omega (arith, l.invariant.0)) (omega (arith, h.loop-test.false)) l.invariant.1
-    z (steps_part a.numbers.now (ref s) a.e l.i (N - l.i) (N - l.i) l.held x refl
-    (omega (arith, l.invariant.0)) (omega (arith, l.invariant.1.size, h.loop-test.false)) q.scale2.ensures)
-    k.put-last2.ensures.1
+    let x = c.scale-2.new.xs in
+    let z : length x ≡ 512 = c.scale-2.auto.xs ∙ l.invariant.1.size in
+    every-last a.bits (steps c.before.before.before.before.before.before.before.before.before.before.before.before.before) N c.requires.0 (wide c.before.before.before.before.before.before.before.before.before.before.before.before.before) a.out.now (room c.before.before.before.before.before.before.before.before.before.before.before.before.before) l.i (N - l.i) l.place l.held
+    x l.out _ (omega (arith, l.invariant.0)) (omega (arith, c.loop-i-test.false)) l.invariant.1
+    z (steps_part a.numbers.now (ref c.before.before.before.before.before.before.before.before.before.before.before.before.before) a.e l.i (N - l.i) (N - l.i) l.held x refl
+    (omega (arith, l.invariant.0)) (omega (arith, l.invariant.1.size, c.loop-i-test.false)) c.scale-2.ensures)
+    c.put_last-2.ensures.1
     ∙ ap (λ (y : ℤ). packed_into a.bits (tab (step_of a.numbers.now y a.e) N) a.out.now)
-    (to_z-of_z s.ranges.r)
+    (to_z-of_z c.ranges.r)
 
 pub put_every_spec : {M : Type 1} → statement M
 put_every_spec =

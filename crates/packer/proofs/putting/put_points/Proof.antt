@@ -24,16 +24,16 @@ use Rattle.packer.proofs.Stepped.{length-scaled, scaled-present, listed_back, pa
 use Rattle.packer.proofs.putting.put_points.Statement.{statement}
 use Rattle.packer.proofs.putting.put_points.Tie as tie
 
-abbrev invariant-loop : tie.invariant-loop
+abbrev invariant-loop : tie.invariant-loop-i
 invariant-loop numbers marks r e bits xs₀ held₀ out₀ progress₀ i₀ xs held out progress i =
     (i ≤ length numbers) × (length xs ≡ 256) × (progress.held < 256)
     × Passed bits (gathered (mark_of marks) (value_of (scaled_from numbers marks (to_z w32 r) e)) i) out₀ progress held
     out
 
-abbrev decreases-loop : tie.decreases-loop
+abbrev decreases-loop : tie.decreases-loop-i
 decreases-loop numbers marks r e bits xs₀ held₀ out₀ progress₀ i₀ xs held out progress i = length numbers - i
 
-abbrev start : tie.After-block-of invariant-loop decreases-loop → tie.Start invariant-loop decreases-loop
+abbrev start : tie.After-block_of-m invariant-loop decreases-loop → tie.Start invariant-loop decreases-loop
 start b = b.before.before.before.before.before.before.before
 
 -- R as code hands it on, and what is known of the lists then
@@ -48,105 +48,92 @@ long : (s : tie.Start invariant-loop decreases-loop) → length s.args.marks.now
 long s = let a = s.args in (lists s).same ∙ ap marks_long (length-scaled a.numbers.now a.marks.now (ref s) a.e)
 
 -- the points of the block
-points : (b : tie.After-block-of invariant-loop decreases-loop)
-    → Next (length (start b).args.numbers.now - b.before.before.loop.i) b.Block-of.result
-points b = next _ _ b.Block-of.ensures
+points : (b : tie.After-block_of-m invariant-loop decreases-loop)
+    → Next (length (start b).args.numbers.now - b.loop-i.i) b.block_of-m.result
+points b = next _ _ b.block_of-m.ensures
 
-loop-holds : tie.Need-loop-init invariant-loop decreases-loop
+loop-holds : tie.Need-loop-i-init invariant-loop decreases-loop
 loop-holds c =
-    let s = c.before.before.before.before in
-    let a = s.args in (
+    let a = c.args in (
       omega arith,
-      s.requires.1.1.0.0,
+      c.requires.1.1.0.0,
       omega arith,
       passed_none a.bits a.marks.now
-          (value_of (scaled_from a.numbers.now a.marks.now (ref s) a.e)) a.out.now a.held.now
-          s.requires.1.1.0.1,
+          (value_of (scaled_from a.numbers.now a.marks.now (ref c.before.before.before.before) a.e)) a.out.now a.held.now
+          c.requires.1.1.0.1,
     )
 
-add-scale : tie.Need-overflow-add-scale invariant-loop decreases-loop
+add-scale : tie.Need-overflow_add-i invariant-loop decreases-loop
 add-scale c = omega (arith, (points c).there)
 
-mul-scale : tie.Need-overflow-mul-scale invariant-loop decreases-loop
+mul-scale : tie.Need-offset_bounds-numbers-i invariant-loop decreases-loop
 mul-scale c = omega (arith, (points c).there)
 
-sub-scale : tie.Need-overflow-sub-scale invariant-loop decreases-loop
+sub-scale : tie.Need-slice_bounds-scale-count invariant-loop decreases-loop
 sub-scale c = omega (arith, (points c).there)
 
-part-scale-start : tie.Need-slice-bounds-scale-start invariant-loop decreases-loop
+part-scale-start : tie.Need-slice_bounds-scale-start invariant-loop decreases-loop
 part-scale-start c = omega (arith, (points c).there)
 
-part-scale-end : tie.Need-slice-bounds-scale-end invariant-loop decreases-loop
+part-scale-end : tie.Need-slice_bounds-scale-end invariant-loop decreases-loop
 part-scale-end c = omega (arith, (points c).there)
 
-slice-reshare-prefix-put-block : tie.Need-slice-reshare-prefix-put-block invariant-loop decreases-loop
+slice-reshare-prefix-put-block : tie.Need-slice_bounds-put_block-end invariant-loop decreases-loop
 slice-reshare-prefix-put-block c =
-    let q = c.before.before in
-    let b = q.before.before.before in
-    omega (arith, (points b).most, q.scale.auto.1.1.1.0, b.before.before.loop.invariant.1)
+    omega (arith, (points c.before.before.before.before.before).most, c.scale.auto.xs, c.loop-i.invariant.1)
 
-slice-aggregate-put-block : tie.Need-slice-aggregate-put-block invariant-loop decreases-loop
+slice-aggregate-put-block : tie.Need-slice_bounds-put_block-end-in-loop-i invariant-loop decreases-loop
 slice-aggregate-put-block c =
-    let q = c.before.before.before in
-    let b = q.before.before.before in
-    sym (length-take-le b.Block-of.result q.scale.new.1.1.1.0
-    (omega (arith, (points b).most, q.scale.auto.1.1.1.0, b.before.before.loop.invariant.1)))
+    sym (length-take-le c.block_of-m.result c.scale.new.xs
+    (omega (arith, (points c.before.before.before.before.before).most, c.scale.auto.xs, c.loop-i.invariant.1)))
 
-add-i : tie.Need-overflow-add-i invariant-loop decreases-loop
+add-i : tie.Need-overflow_add-i-in-loop-i invariant-loop decreases-loop
 add-i c =
-    let q = c.before.before.before.before.before.before.before.before.before.before in
-    let m = points q.before.before.before in
+    let m = points c.before.before.before.before.before.before.before.before.before.before.before.before in
     omega (arith, m.there, m.some (omega arith))
 
-loop-less : tie.Need-loop-smaller invariant-loop decreases-loop
+loop-less : tie.Need-loop-i-smaller invariant-loop decreases-loop
 loop-less c =
-    let q = c.before.before.before.before.before.before.before.before.before.before in
-    let m = points q.before.before.before in
+    let m = points c.before.before.before.before.before.before.before.before.before.before.before.before in
     omega (arith, m.there, m.some (omega arith))
 
-loop-again : tie.Need-loop-preserved invariant-loop decreases-loop
+loop-again : tie.Need-loop-i-preserved invariant-loop decreases-loop
 loop-again c =
-    let k = c.before.before.before.before in
-    let q = k.before.before.before.before.before.before in
-    let b = q.before.before.before in
-    let l = b.before.before.loop in
-    let s = start b in
+    let l = c.loop-i in
+    let s = start c.before.before.before.before.before.before.before.before.before.before.before.before in
     let a = s.args in
     let p = lists s in
-    let m = points b in
+    let m = points c.before.before.before.before.before.before.before.before.before.before.before.before in
     let N = length a.numbers.now in
-    let z = b.Block-of.result in
+    let z = c.block_of-m.result in
     let v = value_of (scaled_from a.numbers.now a.marks.now (ref s) a.e) in
-    let x = q.scale.new.1.1.1.0 in
+    let x = c.scale.new.xs in
     let f = step_of a.numbers.now (ref s) a.e in
     let g : ℕ → ℕ = λ j. f (l.i + j) in
-    let t : take z x ≡ tab g z = steps_part a.numbers.now (ref s) a.e l.i z (l.i + z - l.i) l.xs x (omega arith) (omega (arith, m.there)) (omega (arith, m.most, l.invariant.1)) q.scale.ensures in
-    let r = block_more a.bits a.marks.now v N (omega arith) p.value a.out.now (present-room a.bits a.marks.now v N (length a.out.now) p.mark s.pre.1.1.1)
+    let t : take z x ≡ tab g z = steps_part a.numbers.now (ref s) a.e l.i z (l.i + z - l.i) l.xs x (omega arith) (omega (arith, m.there)) (omega (arith, m.most, l.invariant.1)) c.scale.ensures in
+    let r = block_more a.bits a.marks.now v N (omega arith) p.value a.out.now (present-room a.bits a.marks.now v N (length a.out.now) p.mark s.requires.1.1.1)
     l.i z (take z x) (ap length t ∙ length-tab g z) m.most (omega (arith, m.there))
     (omega (arith, m.there, long s))
     (λ j h o. ap (λ (y : List ℕ). get_or y j 0) t ∙ get_or-tab g z j 0 h
     ∙ scaled-present a.numbers.now a.marks.now (ref s) a.e (l.i + j) (omega (arith, m.there)) o)
-    l.progress l.held l.out l.invariant.2 l.invariant.3 _ k.put-block.ensures.0 _
-    k.put-block.ensures.1.0 _ k.put-block.ensures.1.1 in
-    (omega (arith, m.there), q.scale.auto.1.1.1.0 ∙ l.invariant.1, r.0, r.1)
+    l.progress l.held l.out l.invariant.2 l.invariant.3 _ c.put_block-progress.ensures.0 _
+    c.put_block-progress.ensures.1.0 _ c.put_block-progress.ensures.1.1 in
+    (omega (arith, m.there), c.scale.auto.xs ∙ l.invariant.1, r.0, r.1)
 
 returns : tie.Need-returns invariant-loop decreases-loop
 returns c =
-    let q = c.before.before in
-    let h = q.before.before.before in
-    let l = h.before.loop in
-    let s = h.before.before.before.before.before.before in
-    let a = s.args in
-    let p = lists s in
+    let l = c.loop-i in
+    let a = c.args in
+    let p = lists c.before.before.before.before.before.before.before.before.before.before in
     let N = length a.numbers.now in
-    let v = value_of (scaled_from a.numbers.now a.marks.now (ref s) a.e) in
+    let v = value_of (scaled_from a.numbers.now a.marks.now (ref c.before.before.before.before.before.before.before.before.before.before) a.e) in
     let e : l.i ≡ N = omega (arith, l.invariant.0) in
     last-all a.bits a.marks.now v N (omega arith) p.value a.out.now
-    (present-room a.bits a.marks.now v N (length a.out.now) p.mark s.requires.1.1.1)
+    (present-room a.bits a.marks.now v N (length a.out.now) p.mark c.requires.1.1.1)
     l.progress l.held l.out l.invariant.2
     (subst (λ (x : ℕ). Passed a.bits (gathered (mark_of a.marks.now) v x) a.out.now l.progress l.held
-    l.out) e l.invariant.3) _ q.put_last.ensures.1
-    ∙ packed-back a.numbers.now a.marks.now a.r a.e s.ranges.r.sfits a.bits N a.out.now
+    l.out) e l.invariant.3) _ c.put_last.ensures.1
+    ∙ packed-back a.numbers.now a.marks.now a.r a.e c.ranges.r.sfits a.bits N a.out.now
 
 pub put_points_spec : {M : Type 1} → statement M
 put_points_spec =

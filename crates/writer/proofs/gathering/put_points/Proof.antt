@@ -13,95 +13,87 @@ use Rattle.blocks.proofs.Passing.{passed_none, block_more, last-all, part-size, 
 use Rattle.writer.proofs.gathering.put_points.Statement.{statement}
 use Rattle.writer.proofs.gathering.put_points.Tie as tie
 
-abbrev invariant-loop : tie.invariant-loop
+abbrev invariant-loop : tie.invariant-loop-i
 invariant-loop values marks bits held₀ out₀ progress₀ i₀ held out progress i =
     (i ≤ length values) × (progress.held < 256)
     × Passed bits (gathered (mark_of marks) (value_of values) i) out₀ progress held out
 
-abbrev decreases-loop : tie.decreases-loop
+abbrev decreases-loop : tie.decreases-loop-i
 decreases-loop values marks bits held₀ out₀ progress₀ i₀ held out progress i = length values - i
 
-abbrev start : tie.After-block-of invariant-loop decreases-loop → tie.Start invariant-loop decreases-loop
+abbrev start : tie.After-block_of-m invariant-loop decreases-loop → tie.Start invariant-loop decreases-loop
 start b = b.before.before.before.before.before.before.before
 
 -- the points of the block
-points : (b : tie.After-block-of invariant-loop decreases-loop)
-    → Next (length (start b).args.values.now - b.before.before.loop.i) b.Block-of.result
-points b = next _ _ b.Block-of.ensures
+points : (b : tie.After-block_of-m invariant-loop decreases-loop)
+    → Next (length (start b).args.values.now - b.loop-i.i) b.block_of-m.result
+points b = next _ _ b.block_of-m.ensures
 
-loop-holds : tie.Need-loop-init invariant-loop decreases-loop
+loop-holds : tie.Need-loop-i-init invariant-loop decreases-loop
 loop-holds c =
-    let s = c.before.before.before.before in
-    let a = s.args in (
+    let a = c.args in (
       omega arith,
       omega arith,
       passed_none a.bits a.marks.now (value_of a.values.now) a.out.now
-          a.held.now s.requires.1.1.0,
+          a.held.now c.requires.1.1.0,
     )
 
-add-put-block : tie.Need-overflow-add-put-block invariant-loop decreases-loop
+add-put-block : tie.Need-overflow_add-i invariant-loop decreases-loop
 add-put-block c = omega (arith, (points c).there, (start c).requires.1.0.same)
 
-mul-put-block : tie.Need-overflow-mul-put-block invariant-loop decreases-loop
+mul-put-block : tie.Need-offset_bounds-values-i invariant-loop decreases-loop
 mul-put-block c = omega (arith, (points c).there, (start c).requires.1.0.same)
 
-sub-put-block : tie.Need-overflow-sub-put-block invariant-loop decreases-loop
+sub-put-block : tie.Need-slice_bounds-put_block-count invariant-loop decreases-loop
 sub-put-block c = omega (arith, (points c).there, (start c).requires.1.0.same)
 
-part-put-block-start : tie.Need-slice-bounds-put-block-start invariant-loop decreases-loop
+part-put-block-start : tie.Need-slice_bounds-put_block-start invariant-loop decreases-loop
 part-put-block-start c = omega (arith, (points c).there, (start c).requires.1.0.same)
 
-part-put-block-end : tie.Need-slice-bounds-put-block-end invariant-loop decreases-loop
+part-put-block-end : tie.Need-slice_bounds-put_block-end invariant-loop decreases-loop
 part-put-block-end c = omega (arith, (points c).there, (start c).requires.1.0.same)
 
-add-i : tie.Need-overflow-add-i invariant-loop decreases-loop
+add-i : tie.Need-overflow_add-i-in-loop-i invariant-loop decreases-loop
 add-i c =
-    let b = c.before.before.before.before.before.before.before.before in
-    let m = points b in
+    let m = points c.before.before.before.before.before.before.before.before in
     omega (arith, m.there, m.some (omega arith))
 
-loop-less : tie.Need-loop-smaller invariant-loop decreases-loop
+loop-less : tie.Need-loop-i-smaller invariant-loop decreases-loop
 loop-less c =
-    let b = c.before.before.before.before.before.before.before.before in
-    let m = points b in
+    let m = points c.before.before.before.before.before.before.before.before in
     omega (arith, m.there, m.some (omega arith))
 
-loop-again : tie.Need-loop-preserved invariant-loop decreases-loop
+loop-again : tie.Need-loop-i-preserved invariant-loop decreases-loop
 loop-again c =
-    let q = c.before.before.before.before in
-    let b = q.before.before.before.before in
-    let l = b.before.before.loop in
-    let s = start b in
+    let l = c.loop-i in
+    let s = start c.before.before.before.before.before.before.before.before in
     let a = s.args in
-    let p = s.pre.1.0 in
-    let m = points b in
+    let p = s.requires.1.0 in
+    let m = points c.before.before.before.before.before.before.before.before in
     let N = length a.values.now in
     let v = value_of a.values.now in
-    let xs = take (l.i + b.Block-of.result - l.i) (drop l.i a.values.now) in
-    let k : length xs ≡ b.Block-of.result = part-size a.values.now l.i b.Block-of.result (omega (arith, m.there, p.same)) in
-    let t = block_more a.bits a.marks.now v N (omega arith) p.value a.out.now (present-room a.bits a.marks.now v N _ p.mark s.pre.1.1.1)
-    l.i b.Block-of.result xs k m.most (omega (arith, m.there)) (omega arith)
-    (λ j h _. part-value a.values.now l.i (l.i + b.Block-of.result - l.i) j (omega arith))
-    l.progress l.held l.out l.invariant.1 l.invariant.2 _ q.put-block.ensures.0 _
-    q.put-block.ensures.1.0 _ q.put-block.ensures.1.1 in
+    let xs = take (l.i + c.block_of-m.result - l.i) (drop l.i a.values.now) in
+    let k : length xs ≡ c.block_of-m.result = part-size a.values.now l.i c.block_of-m.result (omega (arith, m.there, p.same)) in
+    let t = block_more a.bits a.marks.now v N (omega arith) p.value a.out.now (present-room a.bits a.marks.now v N _ p.mark s.requires.1.1.1)
+    l.i c.block_of-m.result xs k m.most (omega (arith, m.there)) (omega arith)
+    (λ j h _. part-value a.values.now l.i (l.i + c.block_of-m.result - l.i) j (omega arith))
+    l.progress l.held l.out l.invariant.1 l.invariant.2 _ c.put_block-progress.ensures.0 _
+    c.put_block-progress.ensures.1.0 _ c.put_block-progress.ensures.1.1 in
     (omega (arith, m.there), t.0, t.1)
 
 returns : tie.Need-returns invariant-loop decreases-loop
 returns c =
-    let q = c.before.before in
-    let h = q.before.before.before in
-    let l = h.before.loop in
-    let s = h.before.before.before.before.before.before in
-    let a = s.args in
-    let p = s.requires.1.0 in
+    let l = c.loop-i in
+    let a = c.args in
+    let p = c.requires.1.0 in
     let N = length a.values.now in
     let v = value_of a.values.now in
     let e : l.i ≡ N = omega (arith, l.invariant.0) in
     last-all a.bits a.marks.now v N (omega arith) p.value a.out.now
-    (present-room a.bits a.marks.now v N _ p.mark s.requires.1.1.1)
+    (present-room a.bits a.marks.now v N _ p.mark c.requires.1.1.1)
     l.progress l.held l.out l.invariant.1
     (subst (λ (x : ℕ). Passed a.bits (gathered (mark_of a.marks.now) v x) a.out.now l.progress l.held
-    l.out) e l.invariant.2) _ q.put_last.ensures.1
+    l.out) e l.invariant.2) _ c.put_last.ensures.1
 
 pub put_points_spec : {M : Type 1} → statement M
 put_points_spec =

@@ -8,23 +8,21 @@ use borrow.Author.Rules.{rules}
 use Rattle.writer.proofs.gathering.put_values.Statement.{statement}
 use Rattle.writer.proofs.gathering.put_values.Tie as tie
 
-put-points-requires : tie.Need-put-points-requires
+put-points-requires : tie.Need-put_points-requires
 put-points-requires c κs =
-    let b = c.before.before.before.before.before.before in
-    let a = b.args in (
+    let a = c.args in (
       omega arith,
       (
-        b.requires.1.0,
-        (refl, subst (λ (x : ℕ). x * a.bits / 8 + 4 ≤ length a.out.now) b.requires.1.1.0 b.requires.1.1.1),
+        c.requires.1.0,
+        (refl, subst (λ (x : ℕ). x * a.bits / 8 + 4 ≤ length a.out.now) c.requires.1.1.0 c.requires.1.1.1),
       ),
     )
 
-returns : tie.Need-returns
+returns : tie.Need-returns-then-m-values
 returns c =
-    let b = c.before.before.before.before.before.before.before.before in
-    let a = b.args in
-    pack-whole a.values.now a.marks.now a.bits a.m a.out.now _ (omega arith) b.requires.1.0
-    b.requires.1.1.0 (omega arith) b.requires.1.1.1 c.before.before.pack.ensures.1
+    let a = c.args in
+    pack-whole a.values.now a.marks.now a.bits a.m a.out.now _ (omega arith) c.requires.1.0
+    c.requires.1.1.0 (omega arith) c.requires.1.1.1 c.pack.ensures.1
 
 pub put_values_spec : {M : Type 1} → statement M
 put_values_spec =
