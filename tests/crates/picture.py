@@ -10,13 +10,17 @@ root = sys.argv[1]
 KIT = {"std", "check", "io", "bytes", "os", "libc"}
 
 uses = {}
+archives = set()  # static libraries, for C
 headings = []  # (words, names)
 for line in open(os.path.join(root, "crates.txt"), encoding="utf-8"):
     if line.startswith("# "):
         headings.append((line[2:].strip(), []))
     elif line.strip():
-        name, rest = line.split(":")
+        head, rest = line.split(":")
+        name, *kind = head.split()
         uses[name] = rest.split()
+        if "staticlib" in kind:
+            archives.add(name)
         headings[-1][1].append(name)
 headings = [(words, names) for words, names in headings if names]
 
@@ -74,5 +78,6 @@ for words, names in headings:
     for name in names:
         kit = [u for u in uses[name] if u in KIT]
         nearby = ", ".join(nearest(name)) + (("; the kit's " + ", ".join(kit)) if kit else "")
-        print(f"| `{name}` | {nearby} | {says(name)} |")
+        what = "; ".join(filter(None, [says(name), "a static library" * (name in archives)]))
+        print(f"| `{name}` | {nearby} | {what} |")
     print()

@@ -8,7 +8,7 @@ root = sys.argv[1]
 # What code may name, and in which crates. The values of a data section, and the places of its bits, are the bit reader's (document 02, R-5);
 # the loops below it are timed and tried by themselves too, and writing lays the section down.
 ALONE = {
-    r"\bruns::(?:fetch|unpack)\b": {"bitreader", "bare_loops", "bits_beside"},
+    r"\bruns::(?:\{[^}]*)?\b(?:fetch|unpack)\b": {"bitreader", "bare_loops", "bits_beside"},
     r"\bBDS_HEAD\b": {"rules", "bitreader", "framing"},
 }
 idle = []
@@ -17,6 +17,8 @@ met = set()
 named = 0
 with open(os.path.join(root, "crates.txt"), encoding="utf-8") as f:
     rows = [line.split(":") for line in f if line.strip() and not line.startswith("#")]
+# a static library has that word before its colon
+rows = [(head.split()[0], uses) for head, uses in rows]
 for crate, uses in rows:
     text = []
     for folder, _, files in os.walk(os.path.join(root, "crates", crate.strip())):
@@ -38,7 +40,7 @@ for crate, uses in rows:
     text = "\n".join(text)
     for used in uses.split():
         named += 1
-        if not re.search(rf"Rattle·{used}\.|\b{used}::", text):
+        if not re.search(rf"Rattle\.{used}\.|\b{used}::", text):
             idle.append(f"{crate.strip()} names {used} and does not use it")
 elsewhere += [f"{crate} does not name {named_so}" for named_so, crates in ALONE.items() for crate in sorted(crates) if (named_so, crate) not in met]
 for line in idle + elsewhere:

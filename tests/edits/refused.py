@@ -1,8 +1,9 @@
-"""Reads each must-fail edit beside the prover's log of it.
+"""Reads each must-fail edit beside the prover's log of it: refused.py ROOT LOGS [CRATE..].
 
-An edit file holds one wrong answer under the file's name, or several, each under a line `answer: NAME`. Of each answer it is demanded
+Of each wrong answer (answers.py) it is demanded
 - that the function it changes is refused by its own proof: not proved, and not for want of a function that it calls;
-- that a fact is what is lost: no error of that proof is about a name, a form or a missing proof;
+- that a fact is what is lost: no error of that proof is about a name, a form or a missing proof. Where the edit takes away a name that Rattle
+  made of the code, another error is about a fact;
 - that the edit refuses no other function than those it changes and those that call them.
 An answer that changes a contract is one of the function whose contract it is. An answer that changes a definition changes no function: of
 it, that some proof lost a fact.
@@ -13,70 +14,30 @@ import os
 import re
 import sys
 
-root, only = sys.argv[1], sys.argv[2:]
+from answers import MISSHAPEN, WAITS, answers, edits, function_at, is_renamed, proof_of, read
+
+root, logs, only = sys.argv[1], sys.argv[2], sys.argv[3:]
 crates = os.path.join(root, "crates")
 wrong = []
 
-Answer = collections.namedtuple("Answer", "name places")  # places: (file, text replaced)
 
-# What the prover says of a proof that is no longer a proof, rather than of a fact that is no longer so.
-MISSHAPEN = re.compile(r"not in scope|unknown (?:name|field|module)|no field|parse|syntax|cannot find|is not defined|too (?:many|few) arguments|that can be named from here|does not cover")
-WAITS = re.compile(r"was not admitted|which is not proved")
-
-
-def answers(path):
-    """The wrong answers of an edit file."""
-    found, file, old = [], None, None
-    name = os.path.basename(path)[: -len(".edit")]
-    with open(path, encoding="utf-8") as lines:
-        for line in lines.read().split("\n"):
-            if line.startswith("answer: "):
-                found.append(Answer(line[len("answer: ") :], []))
-            elif line.startswith("file: "):
-                file = line[len("file: ") :]
-            elif line.startswith("old: "):
-                old = line[len("old: ") :]
-            elif line.startswith("new:"):
-                if not found:
-                    found.append(Answer(name, []))
-                found[-1].places.append((file, old))
-    return found
+def own_errors(crate, log, function):
+    """The errors in a function's own proof that are not only about what another failure left, nor about a name that the edit changed."""
+    errors = [line for line in log if proof_of(line) == function and ": error: " in line and not WAITS.search(line)]
+    return [line for line in errors if not is_renamed(crate, function, line)]
 
 
-def function_at(crate, file, old):
-    """The function whose code or contract holds a text, by its path in the crate; None outside all functions."""
-    if not file.startswith("src/"):
-        return None
-    with open(os.path.join(crates, crate, file), encoding="utf-8") as source:
-        text = source.read()
-    at = text.find(old)
-    heads = [h for h in re.finditer(r"^([ ]*)(?:pub(?:\(crate\))? )?(?:extern \"C\" )?fn (\w+)", text, re.M) if h.start() <= at]
-    if not heads:
-        return None
-    head = heads[-1]
-    module = file[len("src/") : -len(".rt")]
-    path = () if module in ("lib", "main") else tuple(module.split("/"))
-    if head.group(1):  # a method, of the type before it
-        path += (re.findall(r"^impl (\w+)", text[: head.start()], re.M)[-1],)
-    return (*path, head.group(2))
-
-
-def own_errors(log, function):
-    """The errors in a function's own proof that are not only about what another failure left."""
-    folder = "/proofs/" + "/".join(function) + "/"
-    return [line for line in log if folder in line and ": error: " in line and not WAITS.search(line)]
-
-
-def judge(crate, label, path):
+def judge(crate, label):
     """Each answer of one edit, and how many they are."""
     edit = f"{crate}/{label}"
-    log_path = os.path.join(root, "target", "must-fail", crate, label, ".log")
-    found = answers(path)
-    if not os.path.isfile(log_path):
-        wrong.append(f"{edit}: no log; rt ci or rt must-fail {crate} leaves one")
+    path = os.path.join(logs, crate, label + ".log")
+    found = answers(crates, crate, label)
+    if not os.path.isfile(path):
+        wrong.append(f"{edit}: no log")
         return len(found)
-    with open(log_path, encoding="utf-8", errors="replace") as lines:
-        log = lines.read().split("\n")
+    log = read(path).split("\n")
+    if not any(line.startswith("logic=not-proved") for line in log):
+        wrong.append(f"{edit}: the prover gave no verdict, or it is proved")
     said = {}
     for line in log:
         m = re.match(rf"fn {crate}::([\w:]+): (.*)", line)
@@ -84,7 +45,7 @@ def judge(crate, label, path):
             said[tuple(m.group(1).split("::"))] = m.group(2)
     changed = set()
     for answer in found:
-        functions = {function_at(crate, file, old) for file, old in answer.places}
+        functions = {function_at(crates, crate, file, old) for file, old, _ in answer.places}
         if None in functions:
             if not any(": error: " in line and not WAITS.search(line) for line in log):
                 wrong.append(f"{edit}: {answer.name}: no proof lost a fact")
@@ -93,8 +54,8 @@ def judge(crate, label, path):
         for function in functions:
             name = "::".join(function)
             reply = said.get(function, "not judged")
-            errors = own_errors(log, function)
-            by_itself = reply.startswith("not proved") and errors or reply.startswith("no proof") and "does not close" in reply
+            errors = own_errors(crate, log, function)
+            by_itself = reply.startswith("not proved") and errors or reply.startswith("no proof") and "did not prove" in reply
             if not by_itself:
                 wrong.append(f"{edit}: {answer.name}: {name} is not refused by its own proof: {reply}")
             if errors and all("binders" in error for error in errors):
@@ -111,18 +72,16 @@ def judge(crate, label, path):
     return len(found)
 
 
-edits = total = 0
+count = total = 0
 for crate in only or sorted(os.listdir(crates)):
-    folder = os.path.join(crates, crate, "must-fail")
     names = collections.Counter()
-    for name in sorted(os.listdir(folder)) if os.path.isdir(folder) else ():
-        path = os.path.join(folder, name)
-        names.update(a.name for a in answers(path))
-        edits += 1
-        total += judge(crate, name[: -len(".edit")], path)
+    for label in edits(crates, crate):
+        names.update(a.name for a in answers(crates, crate, label))
+        count += 1
+        total += judge(crate, label)
     wrong += [f"{crate}: two wrong answers are called {name}" for name, n in names.items() if n > 1]
 for w in wrong:
     print("edits:", w)
 if wrong or not total:
     sys.exit(1)
-print(f"edits: {total} wrong answers in {edits} edits, each refused by the proof of what it changes")
+print(f"edits: {total} wrong answers in {count} edits, each refused by the proof of what it changes")

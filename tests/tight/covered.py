@@ -1,5 +1,7 @@
 """Checks that each public function of each library crate has a statement in crates/tight over its own contract. That the statements hold is the
-prover's; this looks only for one that is missing, weaker than it is said to be, or over another function's contract."""
+prover's; this looks only for one that is missing, weaker than it is said to be, or over another function's contract. No crate can use a static
+library, so of its functions it is checked that each has word for word the head and the clauses of a library's function, which it calls and does
+nothing else."""
 import os
 import re
 import sys
@@ -39,7 +41,7 @@ def public(crate):
 
 
 STATEMENT = re.compile(
-    r"^pub «?(?P<name>[\w]+)»? : (?:Tight|TightBy) contracts\.(?P<path>[\w.]+)\.ended(?P<seen> \(.*\))? λ M\. contracts\.(?P<again>[\w.]+)\.clauses$", re.M
+    r"^pub «?(?P<name>[\w]+)»? : (?:Tight|TightBy) contracts\.(?P<path>[\w.]+)\.ended(?P<seen> \(.*\))? λ M 𝓤 𝓛\. contracts\.(?P<again>[\w.]+)\.clauses 𝓛$", re.M
 )
 
 
@@ -50,7 +52,7 @@ def stated():
     found = {}
     for module in modules:
         text = read(folder, module + ".antt")
-        use = re.search(r"(?m)^use Rattle·(\w+)\.proofs as contracts$", text)
+        use = re.search(r"(?m)^use Rattle\.(\w+)\.specs\.contracts as contracts$", text)
         for s in STATEMENT.finditer(text):
             assert use and s["path"] == s["again"] and s["path"].split(".")[-1] == s["name"], f"tight: {module}: {s['name']} is over another contract"
             assert ("TightBy" in s[0]) == bool(s["seen"]), f"tight: {module}: {s['name']} does not say what is seen"
@@ -58,7 +60,28 @@ def stated():
     return found
 
 
+FUNCTION = re.compile(r'^(?:#\[unsafe\(no_mangle\)\]\n)?pub (?:extern "C" )?fn (?P<head>(?P<name>\w+)\((?P<given>[^)]*)\).*?)^\{\n(?P<body>.*?)^\}\n', re.M | re.S)
+
+
+def functions(crate):
+    """The functions of a library's root, by name."""
+    return {f["name"]: f for f in FUNCTION.finditer(read(crates, crate, "src", "lib.rt"))}
+
+
+def is_same(crate, below, name):
+    """Whether a static library's function is one call of the function of that name in one of the crates below, with its head and clauses."""
+    own = functions(crate).get(name)
+    for lib in below:
+        its = own and functions(lib).get(name)
+        arguments = its and ", ".join(re.findall(r"(\w+):", its["given"]))
+        if its and own["head"] == its["head"] and own["body"].split() == f"{lib}::{name}({arguments})".split():
+            return True
+    return False
+
+
+static = dict(re.findall(r"(?m)^(\w+) staticlib: *(.*)$", read(root, "crates.txt")))
 statements = stated()
+thin = 0
 wrong = []
 covered = 0
 with_functions = set()
@@ -68,6 +91,11 @@ for crate in libraries:
         path = f"{of}.{name}" if of else name
         key = (crate, path)
         if key in EXCEPTIONS:
+            continue
+        if crate in static:
+            thin += 1
+            if of or not is_same(crate, static[crate].split(), name):
+                wrong.append(f"{crate}::{path} is not one call of a library's function of that name with its clauses")
             continue
         if key not in statements:
             wrong.append(f"{crate}::{path} has no statement")
@@ -83,6 +111,7 @@ if wrong:
     print("\n".join("tight: " + w for w in wrong))
     sys.exit(1)
 print(f"tight: {covered} public functions of {len(with_functions)} libraries, each with a statement over its own contract")
+print(f"tight: {thin} functions of {len(static)} static libraries, each one call of such a function with its contract")
 for (crate, path), (_, why) in WEAKER.items():
     print(f"tight: {crate}::{path} is fixed but for a ghost name: {why}")
 for (crate, path), why in EXCEPTIONS.items():

@@ -1,12 +1,13 @@
-// The two loops under reading and writing, for C to time alone beside the whole codec (bench/). Nothing else links
-// this.
+// The two loops under reading and writing, for C to time alone beside the whole codec (`bare_loops_c`, bench/). Nothing
+// else uses this.
+#![tactic(auto)]
+
 ghost use Rattle.std.specs.Prelude.{◌≡◌, length};
 ghost use Rattle.runs.specs.Take.{unpack_fits, unpacked};
 ghost use Rattle.packs.specs.Pack.{pack_fits, packed};
 
 // As `runs::unpack`.
-#[unsafe(no_mangle)]
-pub extern "C" fn bare_unpack(s: &[u8], at: u32, n: u8, out: &mut [u32], m: u32) -> bool
+pub fn bare_unpack(s: &[u8], at: u32, n: u8, out: &mut [u32], m: u32) -> bool
     ensures value { result ≡ unpack_fits n m (length out.old) }
     ensures out_after { out.new ≡ unpacked s.now at n m out.old }
 {
@@ -14,8 +15,7 @@ pub extern "C" fn bare_unpack(s: &[u8], at: u32, n: u8, out: &mut [u32], m: u32)
 }
 
 // As `packs::pack`.
-#[unsafe(no_mangle)]
-pub extern "C" fn bare_pack(vs: &[u32], n: u8, out: &mut [u8]) -> bool
+pub fn bare_pack(vs: &[u32], n: u8, out: &mut [u8]) -> bool
     ensures value { result ≡ pack_fits n vs.now (length out.old) }
     ensures out_after { out.new ≡ packed n vs.now out.old }
 {

@@ -1,4 +1,6 @@
 // The bitmap of a message, refusal 10, and how many points are present. All total.
+#![tactic(auto)]
+
 ghost use Rattle.std.specs.Prelude.{◌≡◌, []};
 ghost use Rattle.rules.specs.Table.{any_of};
 ghost use Rattle.bits.specs.Bits.{count};

@@ -1,6 +1,8 @@
 // A reader of bits: the data octets and the bit place reached in them. Thin over `runs::fetch` and `runs::unpack`;
 // whoever calls `take` or `take_all` holds no reference in a struct. All total: past the end a bit is 0, a number of
 // more than 32 bits is 0, and many numbers that do not fit the lent list change nothing.
+#![tactic(auto)]
+
 ghost use Rattle.std.specs.Prelude.{◌≡◌, ◌<◌, ◌^◌, length};
 ghost use Rattle.runs.specs.Take.{unpacked};
 ghost use Rattle.bitreader.specs.Taken.{taken_at, taken_all, the_data_place, the_value_place, reached as the_reached};

@@ -1,5 +1,7 @@
 // The functions of `runs` and `packs` beside a computation that takes one bit at a time, at every width from 0 to 24
 // and every bit offset from 0 to 7. Each check answers how many things differ.
+#![tactic(auto)]
+
 ghost use Rattle.std.specs.Prelude.{◌+◌, ◌*◌, ◌<◌, ◌≤◌, length};
 
 // Bit i, and 0 past the end.
@@ -197,7 +199,7 @@ fn beside(n: u8, o: u8) -> u32
 }
 
 // Every check at each width and offset, and at how many of these pairs nothing differs.
-fn main() {
+fn main(rt: HostRuntime) {
     let mut agree: u64 = 0;
     let mut n: u8 = 0;
     while n <= 24 {
@@ -210,6 +212,6 @@ fn main() {
         }
         n += 1;
     }
-    io::print_decimal(1, agree);
-    io::write_all(1, b" of 200 widths and offsets agree\n");
+    program_io::write_decimal(&rt, agree);
+    program_io::write_all(&rt, b" of 200 widths and offsets agree\n");
 }

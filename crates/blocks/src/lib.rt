@@ -1,6 +1,8 @@
 // Values of present points on their way into octets. They are gathered into a short list, and each 256 of them are
 // packed: these are whole octets, whatever their width, so that a block starts where the one before it ends. What does
 // not fit changes nothing.
+#![tactic(auto)]
+
 ghost use Rattle.std.specs.Prelude.{◌≡◌, ◌&&◌, ◌-◌, ◌≤◌, length, take};
 ghost use Rattle.packs.specs.Pack.{pack_fits};
 ghost use Rattle.blocks.specs.Block.{block_of, held_room, moved_up, packed_from, settled_at, settled_held, settled_out};

@@ -1,6 +1,8 @@
 // The catalogue: "Without a GDS, PDS octet 7 picks from this catalogue; resolution flags are 128, our own setting". A
 // constant table of the grids' numbers, searched by grid number; and whether a grid is one of its octants. Total: a
 // number that it does not have has no grid.
+#![tactic(auto)]
+
 ghost use Rattle.std.specs.Prelude.{◌≡◌, ◌∷◌, ◌+◌, ◌<◌, length, drop};
 ghost use Rattle.rules.specs.Table.{any_of};
 ghost use Rattle.rules.specs.Grid.{entry as the_entry, octants, catalogue, lookup, apart as the_apart, the_figures_differ};

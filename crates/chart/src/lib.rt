@@ -1,6 +1,8 @@
 // The chart: the row and column of a grid point and back, and how many points and rows there are, over the shape of a
 // grid alone, a rectangle or the rows of a thinned octant. All total; a number that is no grid point's and a place
 // outside the chart have a case of their own.
+#![tactic(auto)]
+
 ghost use Rattle.std.specs.Prelude.{◌≡◌, ◌*◌, ◌<◌, length};
 ghost use Rattle.rules.specs.Counts.{counts_of};
 ghost use Rattle.rules.specs.Chart.{turned as the_turned, spot_of, point_of, the_spot_among, across as the_across, the_point_among};

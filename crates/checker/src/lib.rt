@@ -1,5 +1,7 @@
 // The check of a message against its source field. Refusals 1 to 12 are the message's own; then 18, 15, 16 and 17, of
 // the message's points and the source. Total, and linear in the points.
+#![tactic(auto)]
+
 ghost use Rattle.std.specs.Prelude.{◌≡◌};
 ghost use Rattle.rules.specs.Checking.{check_of, source_as};
 ghost use Rattle.rules.specs.Bitmap.{lent_as};

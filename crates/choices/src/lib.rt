@@ -1,5 +1,7 @@
 // One of two answers, one of two numbers, and a difference cut at 0: said in one line where a branch would part a
 // proof. All total.
+#![tactic(auto)]
+
 ghost use Rattle.std.specs.Prelude.{◌≡◌, cond, ◌-◌};
 
 // One of two answers.

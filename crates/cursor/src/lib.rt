@@ -1,6 +1,8 @@
 // The value or absence at one place of a message's chart, by an index of the ones before each group of 256 grid points,
 // and the filling of that index. All total; beyond the message's own judgement a place takes the octets of its group
 // and one value.
+#![tactic(auto)]
+
 ghost use Rattle.std.specs.Prelude.{◌≡◌, cond, ◌++◌, ◌*◌, ◌^◌, ◌<◌, ◌≤◌, eqb, length, drop};
 ghost use Rattle.bits.specs.Bits.{bits_in, count};
 ghost use Rattle.bits.specs.Tables.{tab};

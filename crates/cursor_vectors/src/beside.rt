@@ -99,32 +99,46 @@ fn far_off(s: &[u8], lent: u16, store: &[u8], index: &[u32], rows: u32) -> bool 
 }
 
 // `same` and how many places were compared, or the first grid point that differs.
-fn tell_same(k: u32, n: u32) {
+fn tell_same(rt: &impl Print, k: u32, n: u32) {
     if k == n {
-        word(b"same");
-        return number(n);
+        word(rt, b"same");
+        return number(rt, n);
     }
-    word(b"differs at");
-    number(k)
+    word(rt, b"differs at");
+    number(rt, k)
 }
 
 // `off` and how many places outside were asked for, or the row of one that is not refused.
-fn tell_off(row: u32, rows: u32, far: bool) {
+fn tell_off(rt: &impl Print, row: u32, rows: u32, far: bool) {
     if (row == rows) & far {
-        word(b"off");
-        return wide(rows as u64 + 4);
+        word(rt, b"off");
+        return wide(rt, rows as u64 + 4);
     }
-    word(b"on in row");
-    number(row)
+    word(rt, b"on in row");
+    number(rt, row)
 }
 
 // The places of an accepted message.
-fn tell(s: &[u8], lent: u16, store: &[u8], index: &[u32], h: Header, values: &[u32], marks: &[u8]) {
+fn tell(
+    rt: &impl Print,
+    s: &[u8],
+    lent: u16,
+    store: &[u8],
+    index: &[u32],
+    h: Header,
+    values: &[u32],
+    marks: &[u8],
+) {
     let n = h.points;
     let g = shape_of(h.grid);
     let rows = rows_on(g);
-    tell_same(first_other(s, lent, store, index, g, n, values, marks), n);
+    tell_same(
+        rt,
+        first_other(s, lent, store, index, g, n, values, marks),
+        n,
+    );
     tell_off(
+        rt,
         first_on(s, lent, store, index, g, rows),
         rows,
         far_off(s, lent, store, index, rows),
@@ -132,12 +146,12 @@ fn tell(s: &[u8], lent: u16, store: &[u8], index: &[u32], h: Header, values: &[u
 }
 
 // A message that is taken: all places of its chart by an index, beside what reading gives.
-pub(crate) fn compare(s: &[u8], lent: u16, store: &[u8], index: &[u32]) {
+pub(crate) fn compare(rt: &impl Print, s: &[u8], lent: u16, store: &[u8], index: &[u32]) {
     let mut values = [0u32; POINTS];
     let mut marks = [0u8; POINTS];
     let h = field::read(s, lent, store, &mut values, &mut marks);
     if h.refusal.number == 0 {
-        return tell(s, lent, store, index, h, &values, &marks);
+        return tell(rt, s, lent, store, index, h, &values, &marks);
     }
-    word(b"refused")
+    word(rt, b"refused")
 }

@@ -1,5 +1,7 @@
 // Grid points and data points, two types of number. A data point is made from a grid point only here, through the
 // bitmap or through its absence. All total.
+#![tactic(auto)]
+
 ghost use Rattle.std.specs.Prelude.{◌≡◌, ◌<◌};
 ghost use Rattle.rules.specs.Bitmap.{present_by, lent_as};
 ghost use Rattle.rules.specs.Points.{the_data_number};

@@ -1,4 +1,6 @@
 // The data section: how its values are packed and what they stand for, and refusals 11 and 12. All total.
+#![tactic(auto)]
+
 ghost use Rattle.std.specs.Prelude.{◌≡◌};
 ghost use Rattle.rules.specs.Table.{any_of};
 ghost use Rattle.rules.specs.Values.{the_packing_at, scale_at, packing_faults, the_length_bad};

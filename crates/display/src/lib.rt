@@ -1,5 +1,7 @@
 // The display record of a message: R and 2^E as IEEE doubles of exactly those values, by their bits. Total; refusal 16
 // comes after 1 to 12.
+#![tactic(auto)]
+
 ghost use Rattle.std.specs.Prelude.{◌≡◌, ◌<◌, ◌≤ℤ◌, ◌||◌};
 ghost use Rattle.std.specs.Float.{binary64};
 ghost use Rattle.std.specs.Float.Ieee.{of_bits};

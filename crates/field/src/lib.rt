@@ -1,5 +1,7 @@
 // Reading a field: its header, and n values and n marks into lent lists. Total: replies 1 to 12 are the message's own,
 // 14 says that a list is too short, and on a refusal nothing lent changes.
+#![tactic(auto)]
+
 ghost use Rattle.std.specs.Prelude.{◌≡◌};
 ghost use Rattle.rules.specs.Reading.{read_of, the_values_after, the_marks_after};
 ghost use Rattle.rules.specs.Bitmap.{lent_as};

@@ -1,6 +1,8 @@
 // All of a message but its values, laid down in lent octets: the indicator, the sections before the data, and what
 // stands in the data section before the data. Whoever lends the octets then puts the values and, last, '7777': a loop
 // that puts values may store zeros past the data. And how many octets the whole will take, before any are lent.
+#![tactic(auto)]
+
 ghost use Rattle.std.specs.Prelude.{◌≡◌, length};
 ghost use Rattle.rules.specs.Writing.{length_for};
 ghost use Rattle.framing.specs.Framing.{the_given_bad, frame_of, framed};

@@ -18,7 +18,7 @@ use Rattle.bits.proofs.Ones.{count-one, count_none, count-le}
 use Rattle.rules.specs.Bitmap.{mark_of}
 use Rattle.rules.specs.Points.{gathered}
 use Rattle.laws.specs.Marks.{here}
-use Rattle.gathering.specs.Gather.{here_from, gather_into, gathered_of}
+use Rattle.gathering.specs.Gather.{gather_into, gathered_of}
 use Rattle.gathering.proofs.Here.{here-one}
 
 -- of numbers it is `gathered`

@@ -2,6 +2,8 @@
 // reached, and the place moves on where the point's mark is 1: no branch hangs on a mark, so a point takes as long
 // present or absent. A block that is longer than the list or has no marks for all its points changes nothing, and the
 // answer is 0.
+#![tactic(auto)]
+
 ghost use Rattle.std.specs.Prelude.{◌≡◌, cond, ◌+◌, ◌≤◌, eqb, pos, length, get_or};
 ghost use Rattle.bits.specs.Bits.{count};
 ghost use Rattle.rules.specs.Bitmap.{value_of};

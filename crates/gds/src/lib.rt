@@ -1,4 +1,6 @@
 // The Grid Description Section of a message: the grid that it says, of any kind, and refusal 8. All total.
+#![tactic(auto)]
+
 ghost use Rattle.std.specs.Prelude.{◌≡◌, ◌&&◌, cond, eqb, length};
 ghost use Rattle.rules.specs.declared.Found.TheVariants.{Nothing, Given};
 ghost use Rattle.rules.specs.Bounds.{octant_rows};

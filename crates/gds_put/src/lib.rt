@@ -1,5 +1,7 @@
 // The Grid Description Section of a grid of any kind, put into lent octets. Every public function is total: a section
 // that does not fit, by room or by its numbers, changes nothing and answers false.
+#![tactic(auto)]
+
 ghost use Rattle.std.specs.Prelude.{◌≡◌, false, [], ◌∷◌, ◌+◌, ◌-◌, ◌^◌, ◌<◌, ◌≤◌, ltb, leb, length};
 ghost use Rattle.bits.specs.Bits.{placed};
 ghost use Rattle.rules.specs.declared.Geometry.TheVariants.{LatLon, Thinned, Mercator, Lambert, Gaussian, Polar};

@@ -1,6 +1,7 @@
 // The codec for C: each function is one call below, with its answer as a record of plain numbers. All total: no number
-// that C can pass is without a meaning, and all buffers are lent by the caller. include/grib1.h declares the records
-// and functions for C.
+// that C can pass is without a meaning, and all buffers are lent by the caller. C calls them through `grib1_c`.
+#![tactic(auto)]
+
 ghost use Rattle.std.specs.Prelude.{◌≡◌};
 ghost use Rattle.rules.specs.Chart.{the_row_long, charted, pointed};
 ghost use Rattle.rules.specs.Grid.{shape_of};
@@ -28,16 +29,14 @@ use records::{
 use rules::{GridPoint, Spot};
 
 // The header of a message, with the stored bitmap of a number lent.
-#[unsafe(no_mangle)]
-pub extern "C" fn grib1_header(message: &[u8], number: u16, store: &[u8]) -> HeaderRecord
+pub fn grib1_header(message: &[u8], number: u16, store: &[u8]) -> HeaderRecord
     ensures { result ≡ the_header_record (header_of message.now (lent_as number store.now)) }
 {
     header_record(message::header(message, number, store))
 }
 
 // The header, with the values and marks of all points put at the front of the lent lists.
-#[unsafe(no_mangle)]
-pub extern "C" fn grib1_read(
+pub fn grib1_read(
     message: &[u8],
     number: u16,
     store: &[u8],
@@ -59,79 +58,56 @@ pub extern "C" fn grib1_read(
 }
 
 // Which part of the message its section 0 to 5 is.
-#[unsafe(no_mangle)]
-pub extern "C" fn grib1_section(
-    message: &[u8],
-    number: u16,
-    store: &[u8],
-    section: u32,
-) -> PartRecord
+pub fn grib1_section(message: &[u8], number: u16, store: &[u8], section: u32) -> PartRecord
     ensures { result ≡ the_part_record (section_of message.now (lent_as number store.now) section) }
 {
     part_record(handed_back::section_part(message, number, store, section))
 }
 
 // Which part of the message or of the lent bitmap the bitmap in force is.
-#[unsafe(no_mangle)]
-pub extern "C" fn grib1_bitmap(message: &[u8], number: u16, store: &[u8]) -> PartRecord
+pub fn grib1_bitmap(message: &[u8], number: u16, store: &[u8]) -> PartRecord
     ensures { result ≡ the_force_record (bitmap_of message.now (lent_as number store.now)) }
 {
     force_record(handed_back::force_part(message, number, store))
 }
 
 // R and 2^E as doubles.
-#[unsafe(no_mangle)]
-pub extern "C" fn grib1_display(message: &[u8], number: u16, store: &[u8]) -> DisplayRecord
+pub fn grib1_display(message: &[u8], number: u16, store: &[u8]) -> DisplayRecord
     ensures { result ≡ the_display_record (display_of message.now (lent_as number store.now)) }
 {
     display_record(display::display(message, number, store))
 }
 
 // Where a grid point lies on the chart of a grid. Of the grid the shape alone counts, and any will do.
-#[unsafe(no_mangle)]
-pub extern "C" fn grib1_place(grid: GridRecord, point: u32) -> PlaceRecord
+pub fn grib1_place(grid: GridRecord, point: u32) -> PlaceRecord
     ensures { result ≡ the_place_record (charted (shape_of (the_grid_back grid)) (record { 0 = point })) }
 {
     place_record(chart::spot_of(shape_of(grid_back(grid)), GridPoint(point)))
 }
 
 // The grid point that lies at a place of that chart.
-#[unsafe(no_mangle)]
-pub extern "C" fn grib1_point(grid: GridRecord, row: u32, column: u32) -> PointRecord
+pub fn grib1_point(grid: GridRecord, row: u32, column: u32) -> PointRecord
     ensures { result ≡ the_point_record (pointed (shape_of (the_grid_back grid)) (record { row = row; column = column })) }
 {
     point_record(chart::point_at(shape_of(grid_back(grid)), Spot { row, column }))
 }
 
 // How many points a row of that chart has; a row outside the chart has none.
-#[unsafe(no_mangle)]
-pub extern "C" fn grib1_row(grid: GridRecord, row: u32) -> u32
+pub fn grib1_row(grid: GridRecord, row: u32) -> u32
     ensures { result ≡ the_row_long (shape_of (the_grid_back grid)) row }
 {
     chart::row_long(shape_of(grid_back(grid)), row)
 }
 
 // The data number of a grid point of a message.
-#[unsafe(no_mangle)]
-pub extern "C" fn grib1_data_number(
-    message: &[u8],
-    number: u16,
-    store: &[u8],
-    point: u32,
-) -> DataRecord
+pub fn grib1_data_number(message: &[u8], number: u16, store: &[u8], point: u32) -> DataRecord
     ensures { result ≡ the_data_record (numbering_of message.now (lent_as number store.now) point) }
 {
     data_record(data_numbers::data_number(message, number, store, GridPoint(point)))
 }
 
 // Fills the front of a lent index for a message: the ones before each group of grid points.
-#[unsafe(no_mangle)]
-pub extern "C" fn grib1_index(
-    message: &[u8],
-    number: u16,
-    store: &[u8],
-    index: &mut [u32],
-) -> IndexedRecord
+pub fn grib1_index(message: &[u8], number: u16, store: &[u8], index: &mut [u32]) -> IndexedRecord
     ensures value { result ≡
         the_indexed_record (index_of message.now (lent_as number store.now) index.old) }
     ensures index_after { index.new ≡
@@ -141,8 +117,7 @@ pub extern "C" fn grib1_index(
 }
 
 // The value or absence at a place of a message's chart, by an index.
-#[unsafe(no_mangle)]
-pub extern "C" fn grib1_cursor(
+pub fn grib1_cursor(
     message: &[u8],
     number: u16,
     store: &[u8],
@@ -159,8 +134,7 @@ pub extern "C" fn grib1_cursor(
 }
 
 // How many octets the message of a PDS, a form and marks takes, whatever its E, R and values.
-#[unsafe(no_mangle)]
-pub extern "C" fn grib1_length(
+pub fn grib1_length(
     pds: &[u8],
     form: FormRecord,
     number: u16,
@@ -175,8 +149,7 @@ pub extern "C" fn grib1_length(
 }
 
 // Writes the message of a PDS, a form, E and R, and lists of values and marks.
-#[unsafe(no_mangle)]
-pub extern "C" fn grib1_write(
+pub fn grib1_write(
     pds: &[u8],
     form: FormRecord,
     e: i32,
@@ -202,8 +175,7 @@ pub extern "C" fn grib1_write(
 }
 
 // Judges a message against its source field.
-#[unsafe(no_mangle)]
-pub extern "C" fn grib1_check(
+pub fn grib1_check(
     message: &[u8],
     number: u16,
     store: &[u8],
@@ -220,8 +192,7 @@ pub extern "C" fn grib1_check(
 }
 
 // Packs a source field into a message of a PDS and a form.
-#[unsafe(no_mangle)]
-pub extern "C" fn grib1_pack(
+pub fn grib1_pack(
     pds: &[u8],
     form: FormRecord,
     number: u16,

@@ -1,4 +1,6 @@
 // The grid of a message, whoever gives it: a GDS or the catalogue. Its points, and refusals 7 and 9. All total.
+#![tactic(auto)]
+
 ghost use Rattle.std.specs.Prelude.{◌≡◌, [], ◌∷◌, ◌*◌, ltb, eqb};
 ghost use Rattle.rules.specs.declared.Geometry.TheVariants.{LatLon, Thinned, Mercator, Lambert, Gaussian, Polar};
 ghost use Rattle.rules.specs.Table.{any_of};

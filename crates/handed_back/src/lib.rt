@@ -1,4 +1,6 @@
 // Sections and the bitmap in force, handed back without copying as parts of what the caller lends. All total.
+#![tactic(auto)]
+
 ghost use Rattle.std.specs.Prelude.{◌≡◌, ◌+◌, ◌<◌, ◌≤◌, length, get_or};
 ghost use Rattle.rules.specs.Places.{IsPart, no_part, after};
 ghost use Rattle.rules.specs.Bitmap.{IsInForce, lent_as};

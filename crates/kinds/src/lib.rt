@@ -1,4 +1,6 @@
 // A grid's geometry in figures, and back: faces, tables of grids and files of vectors hold figures. All total.
+#![tactic(auto)]
+
 ghost use Rattle.std.specs.Prelude.{◌≡◌};
 ghost use Rattle.rules.specs.declared.Geometry.TheVariants.{LatLon, Thinned, Mercator, Lambert, Gaussian, Polar};
 ghost use Rattle.rules.specs.declared.Start.TheVariants.{Neither};

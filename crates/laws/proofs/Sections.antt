@@ -1,6 +1,6 @@
 -- Where the sections of a taken message lie, and that each has the octets of its fields; from row 5, which says that
 -- each section starts where the one before ends.
-use Prim.Native.Nat.{ℕ, ◌+◌, ◌-◌, ◌%◌, ◌≤◌}
+use Prim.Native.Nat.{ℕ, ◌+◌, ◌%◌, ◌≤◌}
 use mathlib.Core.Bool.{Bool, true, false, ◌&&◌, cond}
 use mathlib.Core.Path.{◌≡◌, refl}
 use mathlib.Core.List.{List}

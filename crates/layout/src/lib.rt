@@ -1,5 +1,7 @@
 // Where the sections of a message lie, read off its octets whatever they are, and refusals 1 to 6, with 20 to 23 of the
 // section lengths in the place of 5. All total.
+#![tactic(auto)]
+
 ghost use Rattle.std.specs.Prelude.{◌<◌, ◌≡◌};
 ghost use Rattle.rules.specs.Table.{any_of, first_or};
 ghost use Rattle.rules.specs.Places.{pds_start, the_end_start, the_has_grid, the_has_bitmap, places_of, the_size_bad, the_grib_bad, the_edition_bad};

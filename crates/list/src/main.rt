@@ -1,7 +1,7 @@
 // The listing program: reads one message from standard input and writes its listing.
-use libc::STDIN_FILENO;
+#![tactic(auto)]
 
 // The listing of the message on standard input.
-fn main() {
-    printer::print_from(STDIN_FILENO);
+fn main(rt: HostRuntime) {
+    printer::print_from(&rt, &mut rt.reader());
 }

@@ -1,28 +1,24 @@
 // The listing program's work on each file that an argument names: a line with the name, then the listing.
-use libc::STDOUT_FILENO;
+#![tactic(auto)]
 
-// The listing of the file that argument i names, under its name.
-fn print_case(i: usize) {
-    let mut path = io::buffer();
-    let n = os::arg(i, &mut path);
-    io::write_all(STDOUT_FILENO, b"== ");
-    io::write_all(STDOUT_FILENO, &path[..n]);
-    io::write_all(STDOUT_FILENO, b"\n");
-    let fd = os::open_read(&path[..n]);
-    if fd < 0 {
-        os::fail(&path[..n]);
-        return;
+use program_io::{open_read, write_all};
+use std::rt::Files;
+use std::{env, io};
+
+// The listing of the file of that name, under its name.
+fn print_case(rt: &(impl Files + Print + Eprint), path: &str) {
+    write_all(rt, b"== ");
+    write_all(rt, path.as_bytes());
+    write_all(rt, b"\n");
+    if let Some(mut file) = open_read(rt, path) {
+        printer::print_from(rt, &mut file);
     }
-    printer::print_from(fd);
-    libc::close(fd);
 }
 
 // The listing of each file that an argument names.
-fn main() {
-    let count = os::arg_count();
-    let mut i: usize = 1;
-    while i < count {
-        print_case(i);
-        i += 1;
+fn main(rt: HostRuntime) -> io::Result<()> {
+    for path in env::args(&rt)?.skip(1) {
+        print_case(&rt, path.as_str());
     }
+    Ok(())
 }

@@ -1,5 +1,7 @@
 // The listing of a message as text: a line of what its header says, then a line for each row of its chart, or one that
 // says why it is refused.
+#![tactic(auto)]
+
 ghost use Rattle.std.specs.Prelude.{◌≡◌, ◌++◌, ◌+◌, ◌≤◌, length};
 ghost use Rattle.bits.specs.Bits.{placed};
 ghost use Rattle.rules.specs.Bounds.{listed_room};

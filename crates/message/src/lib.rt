@@ -1,4 +1,6 @@
 // The header of a message: refusals 1 to 12, with 20 to 23 in the place of 5, in stages, as one answer. All total.
+#![tactic(auto)]
+
 ghost use Rattle.std.specs.Prelude.{◌≡◌};
 ghost use Rattle.rules.specs.Table.{refusal, first_or, first};
 ghost use Rattle.rules.specs.Reading.{parsed_of, found_by, refused_by, header_of};

@@ -1,6 +1,8 @@
 // The rows of a thinned octant, by the one table of their counts: how many points each has, how many there are, the row
 // and position of a point, and the points before a row. Rows are in message order. All total; what is counted by
 // Neither has no rows.
+#![tactic(auto)]
+
 ghost use Rattle.std.specs.Prelude.{◌≡◌, ◌<◌, ◌≤◌, length, get_or};
 ghost use Rattle.rules.specs.Bounds.{octant_rows};
 ghost use Rattle.rules.specs.Counts.{total, row_of, in_row, the_before_row, the_from_equator, counts_of};

@@ -1,6 +1,8 @@
 // The packer: a message of a source field, with R the least present number and E the least step for which all X fit.
 // Its rows are 5, 18, 15, 11, 19 and then the writer's over the list of X. That list stands nowhere: a block of it is
 // made where it is put.
+#![tactic(auto)]
+
 ghost use Rattle.std.specs.Prelude.{◌≡◌};
 ghost use Rattle.rules.specs.Table.{first};
 ghost use Rattle.rules.specs.Writing.{write_of, output_after};

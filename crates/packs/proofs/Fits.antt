@@ -1,14 +1,12 @@
 -- The tests by which a writer decides, as the machine makes them.
-use mathlib.Core.Path.{◌≡◌, sym, ap, ◌∙◌}
-use mathlib.Core.Bool.{true, false}
+use mathlib.Core.Path.{◌≡◌, sym, ◌∙◌}
+use mathlib.Core.Bool.{false}
 use mathlib.Core.Logic.{⊎_elim}
-use Prim.Native.Nat.{ℕ, ◌+◌, ◌-◌, ◌*◌, ◌%◌, ◌^◌, ◌≤◌, ◌<◌}
-use native.Mathlib.Nat.{lt_of_lt_of_le}
+use Prim.Native.Nat.{ℕ, ◌+◌, ◌-◌, ◌≤◌, ◌<◌}
 use native.Mathlib.Omega.{arith}
-use lib.Dec.{leb, ltb}
-use lib.Pow.{pow_mono}
-use borrow.Author.Tests.{le-leb, lt-leb, lt-ltb}
-use Rattle.bits.proofs.Runs.{lt_or_ge, one_shl}
+use lib.Dec.{leb}
+use borrow.Author.Tests.{le-leb, lt-leb}
+use Rattle.bits.proofs.Runs.{lt_or_ge}
 
 -- room that is left after p
 pub room_after : (p c len : ℕ) → p ≤ len → leb c (len - p) ≡ leb (p + c) len

@@ -1,5 +1,7 @@
 // The records that cross to C of a bitmap in force and of a point's data number, by value and in its layout, and how
 // each is made of an answer.
+#![tactic(auto)]
+
 ghost use Rattle.std.specs.Prelude.{◌≡◌};
 ghost use Rattle.data_numbers.specs.Told.{told};
 ghost use Rattle.records.specs.Records.{part_by};

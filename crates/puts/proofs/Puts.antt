@@ -5,14 +5,11 @@ use mathlib.Core.List.{List}
 use Prim.Native.Nat.{ℕ, suc, ◌+◌, ◌-◌, ◌*◌, ◌^◌, ◌≤◌, ◌<◌}
 use native.Mathlib.Omega.{arith}
 use borrow.Author.Tests.{lt-ltb, le-ltb, le-leb}
-use lib.Dec.{leb, ltb}
 use lib.IntN.{ℤ, pos, negsuc, nat_abs}
-use lib.ListN.{length}
 use lib.Signed.{lt_z}
 use Rattle.bits.specs.Bits.{number_at}
 use Rattle.rules.specs.Numbers.{sign, plain, spelled_value}
 use Rattle.octets.proofs.Signs.{spelled-lt}
-use Rattle.bits.proofs.Tests.{and_left, and_right}
 use Rattle.packs.specs.Place.{number_fits, number_put}
 use Rattle.puts.specs.Put.{room_at, put_fits, the_put_number, signed_fits, the_put_signed}
 

@@ -1,6 +1,8 @@
 // Numbers of one to four octets, high octet first, and signed fields of two and three, put into lent octets at octet k
 // of the section at place p. Every public function is total: a put that does not fit, by room or by its number, changes
 // nothing and answers false.
+#![tactic(auto)]
+
 ghost use Rattle.std.specs.Prelude.{◌≡◌, cond, ◌+◌, ◌<◌, ◌≤◌, ltb, pos, nat_abs};
 ghost use Rattle.std.specs.Int.Signed.{lt_z};
 ghost use Rattle.rules.specs.Numbers.{sign, plain};

@@ -23,13 +23,13 @@ fn alike(a: &[u8], b: &[u8]) -> usize
 }
 
 // `same`, or the first octet that is another one, counted from 1.
-fn compare(s: &[u8], again: &[u8]) {
+fn compare(rt: &impl Print, s: &[u8], again: &[u8]) {
     let n = alike(s, again);
     if (n == s.len()) & (n == again.len()) {
-        word(b"same");
+        word(rt, b"same");
     } else {
-        word(b"differs at");
-        number(n as u64 + 1);
+        word(rt, b"differs at");
+        number(rt, n as u64 + 1);
     }
 }
 
@@ -75,12 +75,12 @@ fn own_form(h: Header) -> Form {
 }
 
 // Whether what was written is the message, or the number that refused it.
-fn tell(w: Written, s: &[u8], out: &[u8]) {
+fn tell(rt: &impl Print, w: Written, s: &[u8], out: &[u8]) {
     if w.refusal.number == 0 {
-        compare(s, octets_part(out, 0, w.len as usize));
+        compare(rt, s, octets_part(out, 0, w.len as usize));
     } else {
-        word(b"refused");
-        whole(w.refusal.number);
+        word(rt, b"refused");
+        whole(rt, w.refusal.number);
     }
 }
 
@@ -109,6 +109,7 @@ fn written(
 
 // The same, and compares.
 pub(crate) fn write_again(
+    rt: &impl Print,
     s: &[u8],
     lent: u16,
     store: &[u8],
@@ -118,5 +119,5 @@ pub(crate) fn write_again(
 ) {
     let mut out = [0u8; MESSAGE];
     let w = written(s, lent, store, h, values, marks, &mut out);
-    tell(w, s, &out);
+    tell(rt, w, s, &out);
 }

@@ -8,196 +8,196 @@
 use crate::lists::{marks_kept, summed, values_kept};
 use chart::{shape_of, spot_of};
 use kinds::figures_of;
-use libc::STDOUT_FILENO;
+use program_io::{write_all, write_decimal, write_hex};
 use rules::{
     Bitmap, Charted, Figures, Grid, GridPoint, Header, Moment, Part, Refusal, Shape, Signed,
 };
 
 // A word.
-pub(crate) fn word(text: &[u8]) {
-    io::write_all(STDOUT_FILENO, b" ");
-    io::write_all(STDOUT_FILENO, text);
+pub(crate) fn word(rt: &impl Print, text: &[u8]) {
+    write_all(rt, b" ");
+    write_all(rt, text);
 }
 
 // A number in decimal digits.
-pub(crate) fn number(n: u64) {
-    io::write_all(STDOUT_FILENO, b" ");
-    io::print_decimal(STDOUT_FILENO, n);
+pub(crate) fn number(rt: &impl Print, n: u64) {
+    write_all(rt, b" ");
+    write_decimal(rt, n);
 }
 
 // The same of 32 bits.
-pub(crate) fn whole(n: u32) {
-    number(n as u64);
+pub(crate) fn whole(rt: &impl Print, n: u32) {
+    number(rt, n as u64);
 }
 
 // The same of an octet.
-fn octet(n: u8) {
-    number(n as u64);
+fn octet(rt: &impl Print, n: u8) {
+    number(rt, n as u64);
 }
 
 // A word of 32 bits as eight hexadecimal digits.
-fn hex(n: u32) {
-    io::write_all(STDOUT_FILENO, b" ");
-    io::print_hex(STDOUT_FILENO, n as u64, 8);
+fn hex(rt: &impl Print, n: u32) {
+    write_all(rt, b" ");
+    write_hex(rt, n);
 }
 
 // A number with its sign, by way of the three octets that the format has for it: from 8,388,608 on they say minus.
-fn signed(z: Signed) {
+fn signed(rt: &impl Print, z: Signed) {
     let mut field = [0u8; 3];
     puts::put_signed_three(&mut field, 0, 1, z);
     let n = octets::three(&field, 0, 1);
     if n < 8388608 {
-        whole(n);
+        whole(rt, n);
     } else {
-        word(b"-");
-        io::print_decimal(STDOUT_FILENO, (n - 8388608) as u64);
+        word(rt, b"-");
+        write_decimal(rt, (n - 8388608) as u64);
     }
 }
 
 // The bitmap's kind, and a stored one's number.
-fn kind(bitmap: Bitmap) {
+fn kind(rt: &impl Print, bitmap: Bitmap) {
     match bitmap {
-        Bitmap::Without => word(b"without"),
-        Bitmap::Carried => word(b"carried"),
+        Bitmap::Without => word(rt, b"without"),
+        Bitmap::Carried => word(rt, b"carried"),
         Bitmap::Stored(k) => {
-            word(b"stored");
-            number(k as u64);
+            word(rt, b"stored");
+            number(rt, k as u64);
         }
     }
 }
 
 // Year, month, day, hour and minute.
-fn moment(t: Moment) {
-    number(t.year as u64);
-    number(t.month as u64);
-    number(t.day as u64);
-    number(t.hour as u64);
-    number(t.minute as u64);
+fn moment(rt: &impl Print, t: Moment) {
+    number(rt, t.year as u64);
+    number(rt, t.month as u64);
+    number(rt, t.day as u64);
+    number(rt, t.hour as u64);
+    number(rt, t.minute as u64);
 }
 
 // Corners, resolution flags, steps and scanning flags of a grid.
-fn corners(g: Grid, x: Figures) {
-    signed(g.la1);
-    signed(g.lo1);
-    number(g.flags as u64);
-    signed(x.la2);
-    signed(x.lo2);
-    number(x.di as u64);
-    number(x.dj as u64);
-    number(g.scan as u64);
+fn corners(rt: &impl Print, g: Grid, x: Figures) {
+    signed(rt, g.la1);
+    signed(rt, g.lo1);
+    number(rt, g.flags as u64);
+    signed(rt, x.la2);
+    signed(rt, x.lo2);
+    number(rt, x.di as u64);
+    number(rt, x.dj as u64);
+    number(rt, g.scan as u64);
 }
 
 // Where the counts of a thinned octant begin.
-fn counted(rows: u8) {
+fn counted(rt: &impl Print, rows: u8) {
     if rows == 1 {
-        word(b"equator");
+        word(rt, b"equator");
     }
     if rows == 2 {
-        word(b"pole");
+        word(rt, b"pole");
     }
     if 2 < rows {
-        word(b"neither");
+        word(rt, b"neither");
     }
 }
 
 // The name of a kind, by GDS octet 6.
-fn named(kind: u8) {
+fn named(rt: &impl Print, kind: u8) {
     if kind == 1 {
-        return word(b"mercator");
+        return word(rt, b"mercator");
     }
     if kind == 3 {
-        return word(b"lambert");
+        return word(rt, b"lambert");
     }
     if kind == 4 {
-        return word(b"gaussian");
+        return word(rt, b"gaussian");
     }
     if kind == 5 {
-        return word(b"polar");
+        return word(rt, b"polar");
     }
-    word(b"other")
+    word(rt, b"other")
 }
 
 // LoV, the latitudes at which a cylinder or a cone cuts the earth, and the southern pole.
-fn angles(x: Figures) {
-    signed(x.lov);
-    signed(x.latin1);
-    signed(x.latin2);
-    signed(x.pole_la);
-    signed(x.pole_lo);
+fn angles(rt: &impl Print, x: Figures) {
+    signed(rt, x.lov);
+    signed(rt, x.latin1);
+    signed(rt, x.latin2);
+    signed(rt, x.pole_la);
+    signed(rt, x.pole_lo);
 }
 
 // The projection centre flag and a Gaussian grid's N.
-fn flag_and_circles(centre: u8, circles: u16) {
-    number(centre as u64);
-    number(circles as u64);
+fn flag_and_circles(rt: &impl Print, centre: u8, circles: u16) {
+    number(rt, centre as u64);
+    number(rt, circles as u64);
 }
 
 // What a grid has that is no latitude/longitude grid, by its kind's name.
-fn projected(x: Figures) {
+fn projected(rt: &impl Print, x: Figures) {
     if x.kind != 0 {
-        named(x.kind);
-        whole(x.dx);
-        whole(x.dy);
-        angles(x);
-        flag_and_circles(x.centre, x.circles);
+        named(rt, x.kind);
+        whole(rt, x.dx);
+        whole(rt, x.dy);
+        angles(rt, x);
+        flag_and_circles(rt, x.centre, x.circles);
     }
 }
 
 // Row and column of point k, or `off`.
-fn spot(g: Shape, k: u32) {
+fn spot(rt: &impl Print, g: Shape, k: u32) {
     let s = spot_of(g, GridPoint(k));
     match s {
         Charted::On(at) => {
-            number(at.row as u64);
-            number(at.column as u64);
+            number(rt, at.row as u64);
+            number(rt, at.column as u64);
         }
-        Charted::Off => word(b"off"),
+        Charted::Off => word(rt, b"off"),
     }
 }
 
 // `kept` where the elements from n on are as they were.
-fn lists(values: &[u32], marks: &[u8], n: usize) {
+fn lists(rt: &impl Print, values: &[u32], marks: &[u8], n: usize) {
     if values_kept(values, n) & marks_kept(marks, n) {
-        return word(b"kept");
+        return word(rt, b"kept");
     }
-    word(b"changed")
+    word(rt, b"changed")
 }
 
 // The sum, where the lists have n elements, as an accepted message's have.
-fn sum(values: &[u32], marks: &[u8], n: usize) {
+fn sum(rt: &impl Print, values: &[u32], marks: &[u8], n: usize) {
     if n <= values.len() {
         if n <= marks.len() {
-            hex(summed(values, marks, n));
+            hex(rt, summed(values, marks, n));
         }
     }
 }
 
 // All of an accepted answer.
-fn taken(h: Header, values: &[u32], marks: &[u8]) {
+fn taken(rt: &impl Print, h: Header, values: &[u32], marks: &[u8]) {
     let g = h.grid;
     let geometry = g.geometry;
     let x = figures_of(geometry);
     let shape = shape_of(g);
     let bitmap = h.bitmap;
-    whole(h.points);
-    whole(h.present);
-    number(g.ni as u64);
-    number(g.nj as u64);
-    signed(h.d);
-    signed(h.scale.e);
-    hex(h.scale.r);
-    octet(h.packing.bits);
-    octet(h.packing.flags);
-    kind(bitmap);
-    moment(h.time);
-    corners(g, x);
-    counted(x.rows);
-    projected(x);
-    spot(shape, 0);
-    spot(shape, 1);
+    whole(rt, h.points);
+    whole(rt, h.present);
+    number(rt, g.ni as u64);
+    number(rt, g.nj as u64);
+    signed(rt, h.d);
+    signed(rt, h.scale.e);
+    hex(rt, h.scale.r);
+    octet(rt, h.packing.bits);
+    octet(rt, h.packing.flags);
+    kind(rt, bitmap);
+    moment(rt, h.time);
+    corners(rt, g, x);
+    counted(rt, x.rows);
+    projected(rt, x);
+    spot(rt, shape, 0);
+    spot(rt, shape, 1);
     let n = h.points as usize;
-    sum(values, marks, n);
-    lists(values, marks, n);
+    sum(rt, values, marks, n);
+    lists(rt, values, marks, n);
 }
 
 // Whether a part is zeros.
@@ -272,28 +272,28 @@ fn zeros(h: Header) -> bool {
 }
 
 // All of a refused answer but its number.
-fn refused(h: Header, values: &[u32], marks: &[u8]) {
+fn refused(rt: &impl Print, h: Header, values: &[u32], marks: &[u8]) {
     if zeros(h) {
-        word(b"zeros");
+        word(rt, b"zeros");
     }
-    lists(values, marks, 0);
+    lists(rt, values, marks, 0);
 }
 
 // A reply's number, and what it tells beside.
-fn reply(r: Refusal) {
-    whole(r.number);
+fn reply(rt: &impl Print, r: Refusal) {
+    whole(rt, r.number);
     if (r.section != 0) | (r.place != 0) {
-        whole(r.section);
-        whole(r.place);
+        whole(rt, r.section);
+        whole(rt, r.place);
     }
 }
 
 // The whole answer: its reply, and what goes with it.
-pub(crate) fn answer(h: Header, values: &[u32], marks: &[u8]) {
-    reply(h.refusal);
+pub(crate) fn answer(rt: &impl Print, h: Header, values: &[u32], marks: &[u8]) {
+    reply(rt, h.refusal);
     if h.refusal.number == 0 {
-        taken(h, values, marks);
+        taken(rt, h, values, marks);
     } else {
-        refused(h, values, marks);
+        refused(rt, h, values, marks);
     }
 }

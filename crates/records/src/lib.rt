@@ -1,5 +1,7 @@
 // The records that cross to C, by value and in its layout: those that go out, and how each is made of an answer; and,
 // in forms.rt, the one that comes in.
+#![tactic(auto)]
+
 ghost use Rattle.std.specs.Prelude.{◌≡◌};
 ghost use Rattle.records.specs.Records.{the_bitmap_kind, the_bitmap_number, the_part_record, the_grid_record, the_header_record};
 ghost use Rattle.records.specs.Records.{the_place_record, the_point_record, the_display_record, the_written_record, the_check_record};

@@ -1,4 +1,6 @@
 // A reply read off a table of refusals.
+#![tactic(auto)]
+
 ghost use Rattle.std.specs.Prelude.{◌≡◌, cond};
 ghost use Rattle.rules.specs.Table.{the_refusal_at, refusal as the_refusal};
 

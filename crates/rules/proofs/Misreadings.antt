@@ -7,7 +7,7 @@ use lib.ListN.{set, take, drop}
 use Rattle.bits.specs.Bits.{bits_in, run}
 use Rattle.rules.specs.Chart.{spot_of}
 use Rattle.rules.specs.Numbers.{signed}
-use Rattle.rules.specs.Points.{numbered, absent}
+use Rattle.rules.specs.Points.{numbered}
 use Rattle.rules.specs.Reading.{header_of, the_values_after, the_marks_after, numbering_of}
 use Rattle.rules.proofs.Computes.{computes, specimen, nothing}
 

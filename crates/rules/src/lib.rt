@@ -1,5 +1,6 @@
 // The records that every part of the codec shares, and, in specs/, what document 01 means, as R-1 to R-4 and R-6 of
 // document 02 amend it. All records go by value; a refused answer has zero in every other field.
+#![tactic(auto)]
 
 pub mod bounds;
 

@@ -1,5 +1,7 @@
 // The packer's choice of R and E, and X at a point. All total. R is the least present number. E is found from the
 // greatest r = V − R alone: X grows with r, so that all X fit in N bits where the greatest does.
+#![tactic(auto)]
+
 ghost use Rattle.std.specs.Prelude.{◌≡◌, cond, ℕ, ◌^◌, ◌<◌, ◌≤◌, ltb, leb, ℤ, pos, nat_abs, ◌-ℤ◌, length, get_or};
 ghost use Rattle.std.specs.Int.Signed.{mag};
 ghost use Rattle.rules.specs.Packing.{reference as the_reference, exponent as the_exponent, stepped};

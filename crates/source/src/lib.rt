@@ -1,5 +1,7 @@
 // The source field that the checker and the packer take: whole numbers, marks and D. Refusal 18, and R as a whole
 // number. All total.
+#![tactic(auto)]
+
 ghost use Rattle.std.specs.Prelude.{◌≡◌, ◌<◌, ◌≤◌, ℤ, pos, length, get_or};
 ghost use Rattle.bits.specs.Tables.{any_below};
 ghost use Rattle.rules.specs.Table.{any_of};

@@ -1,8 +1,8 @@
 -- Document 01, "Name these stand-ins and show which rule rejects each": our codec, each stand-in as our codec with
 -- other answers in one place, and the demand that rejects it.
-use Rattle.std.specs.Prelude.{ℕ, ◌/◌, ◌^◌, cond, List, [], ◌∷◌, eqb, ℤ, pos, negsuc, length, get_or}
+use Rattle.std.specs.Prelude.{ℕ, ◌/◌, ◌^◌, cond, List, [], ◌∷◌, eqb, pos, negsuc, length, get_or}
 use Rattle.bits.specs.Tables.{tab}
-use Rattle.rules.specs.declared.{Refusal.Refusal, Signed.Signed, Header.Header, Form.Form, Written.Written}
+use Rattle.rules.specs.declared.{Refusal.Refusal, Header.Header, Form.Form, Written.Written}
 use Rattle.rules.specs.declared.{Geometry.TheVariants.LatLon, Bitmap.TheVariants.Carried}
 use Rattle.rules.specs.Numbers.{plain}
 use Rattle.rules.specs.Table.{refusal, filled}

@@ -1,5 +1,7 @@
 // X of many numbers at once, without a branch in the loop: |V − R| of two 32-bit numbers fits in 32 bits, and so does
 // X.
+#![tactic(auto)]
+
 ghost use Rattle.std.specs.Prelude.{◌≡◌, ◌≤◌, nat_abs, ◌-ℤ◌, length};
 ghost use Rattle.rules.specs.Packing.{stepped};
 ghost use Rattle.steps.specs.Steps.{steps_to, steps_into};

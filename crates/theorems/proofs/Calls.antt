@@ -9,11 +9,11 @@ use borrow.Author.Tests.{ne_eqb}
 use lib.Dec.{T, eqb}
 use lib.ListN.{length, take}
 use Rattle.rules.specs.declared.{Header.Header, Grid.Grid, Found.TheVariants.Nothing, Found.TheVariants.Given}
-use Rattle.rules.specs.Table.{refusal, accepted}
+use Rattle.rules.specs.Table.{accepted}
 use Rattle.rules.specs.Numbers.{number}
 use Rattle.rules.specs.Places.{octets_of, after, pds_start, the_has_grid, places_of, the_section_at}
 use Rattle.rules.specs.Grid.{the_grid_at, the_grid_from, grid_or_zeros}
-use Rattle.rules.specs.Bitmap.{Lent, marks_long}
+use Rattle.rules.specs.Bitmap.{Lent}
 use Rattle.rules.specs.Reading.{points_in, grid_in, grid_of, parsed_of, found_by, found_in, read_of, the_values_after, the_marks_after}
 use Rattle.rules.specs.Writing.{Parts, points_for, write_refusal, write_of, output_after}
 use Rattle.rules.specs.RoundTrip.{parts_in}

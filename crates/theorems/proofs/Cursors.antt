@@ -32,7 +32,7 @@ use Rattle.laws.proofs.Rows.{is_true, clash}
 use Rattle.laws.proofs.Judged.{own-numbered, rows}
 use Rattle.laws.proofs.Charts.{Found, found}
 use Rattle.laws.proofs.Cursors.{full, rest, in_group, number-below}
-use Rattle.theorems.specs.Cursors.{read_at, CursorReads, FromIndex, CursorFromIndex, CursorAsksGroup}
+use Rattle.theorems.specs.Cursors.{read_at, CursorReads, CursorFromIndex, CursorAsksGroup}
 use Rattle.theorems.proofs.Lists.{filled_at}
 use Rattle.theorems.proofs.Points.{value-at-point, packed_simply}
 use Rattle.theorems.proofs.BitmapSection.{present-bits}

@@ -10,7 +10,6 @@ use native.Mathlib.Nat.{zero-add, le_refl}
 use borrow.Author.Tests.{ne_eqb, eqb-false}
 use lib.ListN.{length, take, drop}
 use lib.Seq.{take-length}
-use lib.IntN.{nat_abs}
 use Rattle.bits.specs.Bits.{bits_in, runs, Wide}
 use Rattle.bits.proofs.Runs.{bits_in-bits, lt_or_ge}
 use Rattle.bits.proofs.Trip.{length_runs, runs_ext, bits-runs, bits-past, runs_own, wide_runs}

@@ -22,7 +22,7 @@ use Rattle.runs.proofs.Lists.{unpacked-fits}
 use Rattle.bitreader.specs.Taken.{place_most, reached, taken_at, the_data_place}
 use Rattle.bitreader.proofs.Places.{reached-sum, all-reached, data_begins}
 use Rattle.laws.specs.Taken.{Taken}
-use Rattle.laws.proofs.Rows.{is_eq, inside}
+use Rattle.laws.proofs.Rows.{is_eq}
 use Rattle.laws.proofs.Judged.{judged}
 use Rattle.laws.proofs.Sections.{reads-inside}
 use Rattle.laws.proofs.Data.{data_narrow, size-most, data_at, data_runs}

@@ -1,7 +1,7 @@
 -- What being by value one of the eight octants says of a grid: its scanning flags, its latitudes, and that its counts are
 -- an octant's; from the eight, one by one.
 use Prim.Native.Nat.{ℕ, ◌<◌}
-use mathlib.Core.Bool.{Bool, true, false, not, ◌||◌}
+use mathlib.Core.Bool.{Bool, true, false, ◌||◌}
 use mathlib.Core.Path.{◌≡◌, refl, sym, subst, ◌∙◌, ap}
 use mathlib.Core.List.{List, [], ◌∷◌}
 use native.Mathlib.Omega.{arith}
@@ -13,7 +13,7 @@ use Rattle.rules.specs.declared.{Octant.Octant, Geometry.TheVariants.Thinned, Gr
 use Rattle.rules.specs.Table.{any_of}
 use Rattle.rules.specs.Columns.{cells_faults}
 use Rattle.rules.specs.Figures.{the_geometry_by, the_figures_of}
-use Rattle.rules.specs.Grid.{octants, apart, the_figures_differ, grid_differs, same_grid, like_one, grid_faults}
+use Rattle.rules.specs.Grid.{octants, the_figures_differ, grid_differs, same_grid, like_one, grid_faults}
 use Rattle.laws.proofs.Rows.{none_of, is_eq, clash}
 use Rattle.laws.proofs.Grids.{faults-by}
 

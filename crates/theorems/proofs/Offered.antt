@@ -1,7 +1,7 @@
 -- What the parts are that the writer accepts: its eight rows as named facts, there and back, and what each leaves.
 -- Nothing else looks at its table by position.
 use Prim.Native.Nat.{ℕ, ◌^◌, ◌≤◌, ◌<◌}
-use mathlib.Core.Bool.{Bool, true, false, not}
+use mathlib.Core.Bool.{true, false, not}
 use mathlib.Core.Path.{◌≡◌, refl, sym, subst}
 use mathlib.Core.List.{List, ◌∷◌}
 use mathlib.Core.Logic.{⊎_elim}
@@ -22,7 +22,7 @@ use Rattle.rules.specs.Numbers.{beyond}
 use Rattle.rules.specs.Table.{refusal, accepted, any_of}
 use Rattle.rules.specs.Places.{the_has_grid, the_has_bitmap}
 use Rattle.rules.specs.Time.{time_faults}
-use Rattle.rules.specs.Grid.{the_grid_missing, grid_or_zeros, grid_faults, points_of}
+use Rattle.rules.specs.Grid.{the_grid_missing, grid_or_zeros, grid_faults}
 use Rattle.rules.specs.Bitmap.{Lent, the_bitmap_given, mark_of, marks_long, value_of, lent_faults}
 use Rattle.rules.specs.Points.{gathered}
 use Rattle.rules.specs.Values.{packing_faults}

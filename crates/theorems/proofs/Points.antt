@@ -1,6 +1,6 @@
 -- Demand 2 at every point: the value that reading hands out at a present point stands among the data by the count of
 -- ones before it, and is 0 at an absent one; and the k-th of the data at its bit place. From the definitions.
-use Prim.Native.Nat.{ℕ, ◌+◌, ◌-◌, ◌<◌}
+use Prim.Native.Nat.{ℕ, ◌+◌, ◌<◌}
 use mathlib.Core.Bool.{Bool, cond}
 use mathlib.Core.Path.{◌≡◌, sym, ◌∙◌, ap}
 use mathlib.Core.List.{List}
@@ -12,7 +12,6 @@ use Rattle.bits.specs.Bits.{bits_in, count}
 use Rattle.bits.proofs.Ones.{count_ones}
 use Rattle.rules.specs.declared.{Bitmap.Bitmap, Bitmap.TheVariants.Without}
 use Rattle.rules.specs.Table.{accepted}
-use Rattle.rules.specs.Numbers.{octet}
 use Rattle.rules.specs.Bitmap.{Lent, bitmap_octets, the_bitmap_given, present_by}
 use Rattle.rules.specs.Points.{numbered, absent, outside, the_data_number, value_at, scattered}
 use Rattle.rules.specs.Reading.{own_refusal, bitmap_in, in_force_in, points_in, present_in, present_count, data_in}

@@ -10,10 +10,9 @@ use lib.Dec.{T, eqb}
 use lib.IntN.{nat_abs}
 use lib.ListN.{length, get_or, take, drop, length-drop}
 use lib.Seq.{get_or-take, get_or-drop, length-take-le}
-use Rattle.bits.specs.Bits.{bits_in, octets_for, Wide}
+use Rattle.bits.specs.Bits.{octets_for}
 use Rattle.bits.proofs.Runs.{Bits, bits_in-bits, run-lt}
 use Rattle.bits.proofs.Fill.{length-tab, get_or-tab}
-use Rattle.bits.proofs.Trip.{length_runs, wide_runs}
 use Rattle.bits.proofs.Below.{no-below}
 use Rattle.bits.proofs.Cut.{bits-take, run-part}
 use Rattle.bits.proofs.Marks.{wide-tab}

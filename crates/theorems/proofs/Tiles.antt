@@ -13,7 +13,7 @@ use Rattle.bits.proofs.Cut.{cut}
 use Rattle.rules.specs.declared.{Part.Part}
 use Rattle.rules.specs.Numbers.{joined}
 use Rattle.rules.specs.Table.{accepted}
-use Rattle.rules.specs.Places.{octets_of, no_part, after, the_end_start, pds_start, the_has_grid, the_has_bitmap, places_of, sections_of}
+use Rattle.rules.specs.Places.{octets_of, no_part, after, pds_start, the_has_grid, the_has_bitmap, places_of, sections_of}
 use Rattle.rules.specs.Places.{the_section_at}
 use Rattle.rules.specs.Bitmap.{Lent}
 use Rattle.rules.specs.Reading.{own_refusal, section_of}

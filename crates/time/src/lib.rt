@@ -1,4 +1,6 @@
 // The reference time of a PDS, and refusal 6. All total.
+#![tactic(auto)]
+
 ghost use Rattle.std.specs.Prelude.{◌≡◌, cond};
 ghost use Rattle.rules.specs.Table.{any_of};
 ghost use Rattle.rules.specs.Time.{the_year_of, leap, the_days_in, the_moment_at, moment_faults, time_faults};

@@ -1,4 +1,6 @@
 // Whether numbers have no more than so many bits: one, and each of a list.
+#![tactic(auto)]
+
 ghost use Rattle.std.specs.Prelude.{◌≡◌, ◌^◌, ltb};
 ghost use Rattle.widths.specs.Below.{all_below};
 

@@ -1,4 +1,6 @@
 // Rows 5 to 13 of the writer's table over the parts given: which message may be written.
+#![tactic(auto)]
+
 ghost use Rattle.std.specs.Prelude.{◌≡◌, ◌&&◌, eqb, length};
 ghost use Rattle.rules.specs.declared.Bitmap.TheVariants.{Stored};
 ghost use Rattle.rules.specs.Bounds.{exponent_most};

@@ -103,15 +103,16 @@ fn numbers_back(a: &[u32], b: &[u32]) -> bool {
 }
 
 // `back` or `lost`.
-fn told(same: bool) {
+fn told(rt: &impl Print, same: bool) {
     if same {
-        return word(b"back");
+        return word(rt, b"back");
     }
-    word(b"lost")
+    word(rt, b"lost")
 }
 
 // A message read again beside the parts that it was written of.
 pub(crate) fn read_back(
+    rt: &impl Print,
     s: &[u8],
     pds: &[u8],
     form: Form,
@@ -131,5 +132,5 @@ pub(crate) fn read_back(
         & numbers_back(values, &own_values)
         & octets_back(marks, &own_marks);
     let octets = (own_pds.len() == pds.len()) & octets_back(pds, own_pds);
-    told(header_back(h, form, scale) & octets & lists);
+    told(rt, header_back(h, form, scale) & octets & lists);
 }

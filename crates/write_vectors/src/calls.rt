@@ -8,16 +8,24 @@ use rules::Written;
 
 // The reply and the length; of a message its octets too, and whether those after it, or on a refusal all, are as they
 // were.
-fn tell(w: Written, s: &[u8], out: &[u8]) {
-    line::written(w);
+fn tell(rt: &impl Print, w: Written, s: &[u8], out: &[u8]) {
+    line::written(rt, w);
     if w.refusal.number == 0 {
-        line::sum(s);
+        line::sum(rt, s);
     }
-    line::kept(out, w.len as usize);
+    line::kept(rt, out, w.len as usize);
 }
 
 // The writer, and whether reading gives its parts back.
-fn write(fields: &[u8], pds: &[u8], store: &[u8], values: &[u32], marks: &[u8], out: &mut [u8]) {
+fn write(
+    rt: &impl Print,
+    fields: &[u8],
+    pds: &[u8],
+    store: &[u8],
+    values: &[u32],
+    marks: &[u8],
+    out: &mut [u8],
+) {
     let w = writer::write(
         pds,
         form(fields),
@@ -29,9 +37,10 @@ fn write(fields: &[u8], pds: &[u8], store: &[u8], values: &[u32], marks: &[u8], 
         out,
     );
     let s = octets_part(out, 0, w.len as usize);
-    tell(w, s, out);
+    tell(rt, w, s, out);
     if w.refusal.number == 0 {
         read_back(
+            rt,
             s,
             pds,
             form(fields),
@@ -45,20 +54,35 @@ fn write(fields: &[u8], pds: &[u8], store: &[u8], values: &[u32], marks: &[u8], 
 }
 
 // The check's reply.
-fn check(fields: &[u8], s: &[u8], store: &[u8], numbers: &[i32], marks: &[u8]) {
+fn check(rt: &impl Print, fields: &[u8], s: &[u8], store: &[u8], numbers: &[i32], marks: &[u8]) {
     let r = checker::check(s, number(fields), store, numbers, marks, decimal(fields));
-    line::reply(r);
+    line::reply(rt, r);
 }
 
 // Of a packed message E and R, and the check of it against its own source.
-fn tell_packed(fields: &[u8], s: &[u8], store: &[u8], numbers: &[i32], marks: &[u8]) {
+fn tell_packed(
+    rt: &impl Print,
+    fields: &[u8],
+    s: &[u8],
+    store: &[u8],
+    numbers: &[i32],
+    marks: &[u8],
+) {
     let h = message::header(s, number(fields), store);
-    line::scale(h.scale);
-    check(fields, s, store, numbers, marks);
+    line::scale(rt, h.scale);
+    check(rt, fields, s, store, numbers, marks);
 }
 
 // The packer, and the check of what it wrote.
-fn pack(fields: &[u8], pds: &[u8], store: &[u8], numbers: &[i32], marks: &[u8], out: &mut [u8]) {
+fn pack(
+    rt: &impl Print,
+    fields: &[u8],
+    pds: &[u8],
+    store: &[u8],
+    numbers: &[i32],
+    marks: &[u8],
+    out: &mut [u8],
+) {
     let w = packer::pack(
         pds,
         form(fields),
@@ -70,9 +94,9 @@ fn pack(fields: &[u8], pds: &[u8], store: &[u8], numbers: &[i32], marks: &[u8], 
         out,
     );
     let s = octets_part(out, 0, w.len as usize);
-    tell(w, s, out);
+    tell(rt, w, s, out);
     if w.refusal.number == 0 {
-        tell_packed(fields, s, store, numbers, marks);
+        tell_packed(rt, fields, s, store, numbers, marks);
     }
 }
 
@@ -90,6 +114,7 @@ fn lower(from: &[u32], to: &mut [i32]) {
 
 // The check or the packer.
 fn run_source(
+    rt: &impl Print,
     fields: &[u8],
     s: &[u8],
     store: &[u8],
@@ -101,14 +126,15 @@ fn run_source(
     lower(numbers, &mut room);
     let source = source_part(&room, 0, numbers.len());
     if call(fields) == 1 {
-        check(fields, s, store, source, marks);
+        check(rt, fields, s, store, source, marks);
     } else {
-        pack(fields, s, store, source, marks, out);
+        pack(rt, fields, s, store, source, marks, out);
     }
 }
 
 // The call that a vector asks for.
 pub(crate) fn run(
+    rt: &impl Print,
     fields: &[u8],
     s: &[u8],
     store: &[u8],
@@ -118,8 +144,8 @@ pub(crate) fn run(
 ) {
     fill_output(out);
     if call(fields) == 0 {
-        write(fields, s, store, numbers, marks, out);
+        write(rt, fields, s, store, numbers, marks, out);
     } else {
-        run_source(fields, s, store, numbers, marks, out);
+        run_source(rt, fields, s, store, numbers, marks, out);
     }
 }

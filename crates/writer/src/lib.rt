@@ -1,5 +1,7 @@
 // The writer: a message of the parts given, into lent octets. It refuses by rows 5, 6, 7, 9, 10, 11, 13 and 14 of the
 // table, and a refusal writes nothing.
+#![tactic(auto)]
+
 ghost use Rattle.std.specs.Prelude.{◌≡◌};
 ghost use Rattle.rules.specs.Writing.{write_of, output_after};
 ghost use Rattle.framing.specs.Given.{parts};

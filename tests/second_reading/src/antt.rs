@@ -58,7 +58,7 @@ fn refusal(reply: Reply) -> String {
             number,
             section,
             place,
-        } => format!("refusalAt {number} {section} {place}"),
+        } => format!("the_refusal_at {number} {section} {place}"),
     }
 }
 
@@ -263,37 +263,37 @@ pub fn read_statements(k: usize, case: &ReadCase) -> (String, u32) {
     let answer = read(message, *number, store, &mut values, &mut marks);
 
     let mut text = abbreviation(&s, message);
-    text += &statement(&name, &format!("readOf {arguments}"), &header(&answer));
+    text += &statement(&name, &format!("read_of {arguments}"), &header(&answer));
     text += &statement(
         &format!("{name}-values"),
-        &format!("valuesAfter {arguments}"),
+        &format!("the_values_after {arguments}"),
         &naturals(&values),
     );
     text += &statement(
         &format!("{name}-marks"),
-        &format!("marksAfter {arguments}"),
+        &format!("the_marks_after {arguments}"),
         &octets(&marks),
     );
     let (reply, reference, step) = display(message, &case.lent);
     text += &statement(
         &format!("{name}-display"),
-        &format!("displayOf {s} {l}"),
+        &format!("display_of {s} {l}"),
         &format!(
-            "record {{ refusal = {}; reference = ofBits binary64 {reference}; \
-             step = ofBits binary64 {step} }}",
+            "record {{ refusal = {}; reference = of_bits binary64 {reference}; \
+             step = of_bits binary64 {step} }}",
             refusal(reply)
         ),
     );
     let (stored, force) = bitmap_in_force(message, &case.lent);
     text += &statement(
         &format!("{name}-force"),
-        &format!("bitmapOf {s} {l}"),
+        &format!("bitmap_of {s} {l}"),
         &format!("record {{ stored = {stored}; part = {} }}", part(force)),
     );
     text += &statement(
         &format!("{name}-sections"),
         &format!(
-            "map (sectionOf {s} {l}) {}",
+            "map (section_of {s} {l}) {}",
             given(&list(0..7, |k: u32| k.to_string()))
         ),
         &list(0..7, |k| part(section(message, &case.lent, k))),
@@ -303,16 +303,16 @@ pub fn read_statements(k: usize, case: &ReadCase) -> (String, u32) {
     if own != answer && own.grid.rows != Rows::Even {
         text += &statement(
             &format!("{name}-header"),
-            &format!("headerOf {s} {l}"),
+            &format!("header_of {s} {l}"),
             &header(&own),
         );
     }
     if own.reply == 0 {
-        let shape = format!("(shapeOf {})", given(&grid(&own.grid)));
+        let shape = format!("(shape_of {})", given(&grid(&own.grid)));
         let points = some_points(own.points);
         text += &statement(
             &format!("{name}-places"),
-            &format!("map (spotOn {shape}) {}", given(&naturals(&points))),
+            &format!("map (the_spot_on {shape}) {}", given(&naturals(&points))),
             &list(points, |point| {
                 spot(place_of(&own.grid, point).expect("a point of the grid"))
             }),
@@ -321,7 +321,7 @@ pub fn read_statements(k: usize, case: &ReadCase) -> (String, u32) {
         let rows = [0, nj / 3, nj - 1, nj, nj + 1];
         text += &statement(
             &format!("{name}-rows"),
-            &format!("map (rowLong {shape}) {}", given(&naturals(&rows))),
+            &format!("map (the_row_long {shape}) {}", given(&naturals(&rows))),
             &list(rows, |row| points_in_row(&own.grid, row).to_string()),
         );
     }
@@ -349,10 +349,10 @@ pub fn write_statements(k: usize, case: &WriteCase) -> (String, u32) {
     );
     let mut out = case.out.clone();
     let outcome = write(&case.parts, &mut out);
-    let mut text = statement(&name, &format!("writeOf {arguments}"), &written(outcome));
+    let mut text = statement(&name, &format!("write_of {arguments}"), &written(outcome));
     text += &statement(
         &format!("{name}-out"),
-        &format!("outputAfter {arguments}"),
+        &format!("output_after {arguments}"),
         &octets(&out),
     );
     // A message of an octant is too long to be stated: its GDS alone.
@@ -360,7 +360,7 @@ pub fn write_statements(k: usize, case: &WriteCase) -> (String, u32) {
     if let Some(own) = case.parts.form.grid.as_ref().filter(octant) {
         text += &statement(
             &format!("{name}-gds"),
-            &format!("gdsOf {}", given(&grid(own))),
+            &format!("gds_of {}", given(&grid(own))),
             &octets(&to_gds(own)),
         );
     }
@@ -377,7 +377,7 @@ pub fn check_statements(k: usize, case: &CheckCase) -> (String, u32) {
     text += &statement(
         &name,
         &format!(
-            "checkOf {s} {} {}",
+            "check_of {s} {} {}",
             given(&lent(&case.lent)),
             given(&source(&case.source))
         ),
@@ -400,10 +400,10 @@ pub fn pack_statements(k: usize, case: &PackCase) -> (String, u32) {
     .join(" ");
     let mut out = case.out.clone();
     let outcome = pack(&case.pds, &case.form, &case.lent, &case.source, &mut out);
-    let mut text = statement(&name, &format!("packOf {arguments}"), &written(outcome));
+    let mut text = statement(&name, &format!("pack_of {arguments}"), &written(outcome));
     text += &statement(
         &format!("{name}-out"),
-        &format!("packedAfter {arguments}"),
+        &format!("packed_after {arguments}"),
         &octets(&out),
     );
     (text, outcome.0)
@@ -423,7 +423,7 @@ pub fn cursor_statements(k: usize, case: &CursorCase) -> (String, Vec<u32>) {
     let mut text = abbreviation(&s, message);
     text += &statement(
         &name,
-        &format!("indexOf {arguments}"),
+        &format!("index_of {arguments}"),
         &format!(
             "record {{ refusal = {}; entries = {} }}",
             refusal(filled.reply),
@@ -432,7 +432,7 @@ pub fn cursor_statements(k: usize, case: &CursorCase) -> (String, Vec<u32>) {
     );
     text += &statement(
         &format!("{name}-index"),
-        &format!("indexAfter {arguments}"),
+        &format!("the_index_after {arguments}"),
         &naturals(&room),
     );
     let there: Vec<UnderCursor> = asking
@@ -444,7 +444,7 @@ pub fn cursor_statements(k: usize, case: &CursorCase) -> (String, Vec<u32>) {
     text += &statement(
         &format!("{name}-places"),
         &format!(
-            "map (cursorOf {s} {l} {}) {}",
+            "map (cursor_of {s} {l} {}) {}",
             given(&naturals(&asking.index)),
             given(&list(asking.places.iter().copied(), spot))
         ),

@@ -1,6 +1,5 @@
 -- Whether a block fits: lists and marks first, so that what is subtracted then is there.
 use native.Mathlib.Omega.{arith}
-use Prim.Native.Nat.{◌-◌}
 use Rattle.blocks.proofs.Fitting.{held-most, marks-there, block-judged, block_refused}
 use Rattle.blocks.proofs.fits.Statement.{statement}
 use Rattle.blocks.proofs.fits.Tie as tie

@@ -1,6 +1,5 @@
 -- A part of what is held packed into a part of the octets (laws part-fits, part-packed).
 use native.Mathlib.Omega.{arith}
-use Prim.Native.Nat.{◌-◌}
 use mathlib.Core.Path.{sym}
 use lib.Seq.{length-take-le}
 use Rattle.blocks.proofs.Parts.{part-fits, part-packed}

@@ -1,6 +1,5 @@
 -- The table in the code is the catalogue of the rules, row by row: they compute to the same list.
 use Prim.Native.Nat.{◌+◌, ◌<◌}
-use native.Mathlib.Omega.{arith}
 use mathlib.Core.Path.{sym, ◌∙◌, ap}
 use mathlib.Core.List.{◌∷◌, map}
 use lib.IntN.{pos}

@@ -1,8 +1,4 @@
 -- A row of the chart, and one outside: the test's two cases.
-use mathlib.Core.Path.{◌≡◌, ap₂, ◌∙◌}
-use mathlib.Core.Bool.{Bool}
-use Prim.Native.Nat.{ℕ}
-use lib.ListN.{get_or}
 use Rattle.laws.proofs.Flags.{bit_2}
 use Rattle.chart.proofs.Laws.{across_in, across-out}
 use borrow.Author.Rules.{rules}

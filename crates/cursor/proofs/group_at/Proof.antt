@@ -5,12 +5,11 @@ use Rattle.cursor.proofs.group_at.Statement.{statement}
 use Rattle.cursor.proofs.group_at.Tie as tie
 
 returns : tie.Need-returns
-returns c =
-    (
-      all_from _ _ _ _ _ _ c.group_ones.ensures c.group_size.ensures,
-      before-from _ _ _ _ c.ones_few.ensures,
-      c.bit.ensures,
-    )
+returns c = (
+  all_from _ _ _ _ _ _ c.group_ones.ensures c.group_size.ensures,
+  before-from _ _ _ _ c.ones_few.ensures,
+  c.bit.ensures,
+)
 
 pub group_at_spec : {M : Type 1} → statement M
 group_at_spec =

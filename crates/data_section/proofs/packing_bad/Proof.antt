@@ -1,6 +1,5 @@
 -- Refusal 11: the flags as numbers (law packing-read).
 use Rattle.laws.proofs.Flags.{packing-read}
-use borrow.Author.Rules.{rules}
 use Rattle.data_section.proofs.packing_bad.Statement.{statement}
 use Rattle.data_section.proofs.packing_bad.Tie as tie
 

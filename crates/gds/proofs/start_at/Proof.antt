@@ -1,7 +1,6 @@
 -- By the two tests.
 use mathlib.Core.Path.{sym, ◌∙◌}
 use Rattle.gds.proofs.Laws.{long-equator, long-pole, start-equator, start-pole, start-neither}
-use borrow.Author.Rules.{rules}
 use Rattle.gds.proofs.start_at.Statement.{statement}
 use Rattle.gds.proofs.start_at.Tie as tie
 

@@ -26,12 +26,11 @@ returns-3 c =
     c.if-text-lt-TEXT_ROOM.false c.if-number-ne0.true)
 
 lines-requires : tie.Need-lines-requires
-lines-requires c κs =
-    (
-      c.if-text-lt-TEXT_ROOM.false,
-      lists-fit _ _ _ _ c.if-s-gt-LISTED_MOST.false refl refl c.read-h.ensures.0
-          c.if-number-ne0.false _ _ c.read-h.ensures.1.0 c.read-h.ensures.1.1,
-    )
+lines-requires c κs = (
+  c.if-text-lt-TEXT_ROOM.false,
+  lists-fit _ _ _ _ c.if-s-gt-LISTED_MOST.false refl refl c.read-h.ensures.0
+      c.if-number-ne0.false _ _ c.read-h.ensures.1.0 c.read-h.ensures.1.1,
+)
 
 cast-result-3 : tie.Need-overflow_cast-result-2
 cast-result-3 c = record { fits = omega arith }

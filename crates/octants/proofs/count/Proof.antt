@@ -1,5 +1,4 @@
 -- The table's row, or from the other end, or none: past the last row, then the enum's three cases.
-use Prim.Native.Nat.{◌-◌}
 use mathlib.Core.Path.{◌∙◌}
 use Rattle.octants.proofs.Laws.{from-equator, from-pole, from-neither, past}
 use borrow.Author.Rules.{rules}

@@ -3,7 +3,6 @@ use borrow.Author.Rules.{rules}
 use native.Mathlib.Omega.{arith}
 use Prim.Native.Nat.{◌≤◌, ◌-◌}
 use lib.ListN.{length, drop_of_length-le}
-use mathlib.Core.Path.{◌≡◌}
 use Rattle.rules.specs.Counts.{counts_of}
 use Rattle.laws.proofs.Counts.{Left, left-first, left_here, left-on, left-none}
 use Rattle.octants.proofs.Laws.{spot_is}

@@ -24,12 +24,11 @@ returns c =
     c.loop-e-test.true (ap not c.if-not-fills.true)
 
 loop-again : tie.Need-loop-e-preserved invariant-loop decreases-loop
-loop-again c =
-    (
-      omega arith,
-      least_on _ _ _ c.loop-e.invariant.1 _ _ c.step.ensures c.fills.ensures
-          (ap not c.if-not-fills.false),
-    )
+loop-again c = (
+  omega arith,
+  least_on _ _ _ c.loop-e.invariant.1 _ _ c.step.ensures c.fills.ensures
+      (ap not c.if-not-fills.false),
+)
 
 returns-2 : tie.Need-returns invariant-loop decreases-loop
 returns-2 c = least-end _ _ _ c.loop-e.invariant.1 (omega arith)

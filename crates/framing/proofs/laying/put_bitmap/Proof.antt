@@ -9,20 +9,18 @@ use Rattle.framing.proofs.laying.put_bitmap.Statement.{statement}
 use Rattle.framing.proofs.laying.put_bitmap.Tie as tie
 
 put-carried-requires : tie.Need-put_carried-requires
-put-carried-requires c κs =
-    (
-      omega arith,
-      (carried-fits c.args.bitmap c.in-Carried.is c.args.b c.args.n
-          (length c.args.out.now) c.requires.1),
-    )
+put-carried-requires c κs = (
+  omega arith,
+  (carried-fits c.args.bitmap c.in-Carried.is c.args.b c.args.n
+      (length c.args.out.now) c.requires.1),
+)
 
 put-bms-requires : tie.Need-put_bms-requires
-put-bms-requires c κs =
-    (
-      stored-fits c.args.bitmap _ c.in-Stored.is c.args.b c.args.n
-          (length c.args.out.now) c.requires.1,
-      omega arith,
-    )
+put-bms-requires c κs = (
+  stored-fits c.args.bitmap _ c.in-Stored.is c.args.b c.args.n
+      (length c.args.out.now) c.requires.1,
+  omega arith,
+)
 
 returns : tie.Need-returns-in-Without
 returns c =

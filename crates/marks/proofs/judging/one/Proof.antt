@@ -1,6 +1,5 @@
 -- A mark of 1, and any other.
 use borrow.Author.Tests.{eq-eqb, ne_eqb}
-use Prim.Native.Nat.{◌-◌}
 use Rattle.marks.proofs.judging.one.Statement.{statement}
 use Rattle.marks.proofs.judging.one.Tie as tie
 

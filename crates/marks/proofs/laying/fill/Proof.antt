@@ -1,7 +1,6 @@
 -- The bits inside put as marks, and zeros after them.
 use Rattle.marks.proofs.Bitmaps.{G, bit_past, fill_done, fill-short}
 use native.Mathlib.Omega.{arith}
-use Prim.Native.Nat.{◌-◌}
 use borrow.Author.Rules.{rules}
 use Rattle.marks.proofs.laying.fill.Statement.{statement}
 use Rattle.marks.proofs.laying.fill.Tie as tie

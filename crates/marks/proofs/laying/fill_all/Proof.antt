@@ -3,7 +3,6 @@ use mathlib.Core.Path.{refl}
 use Rattle.bits.specs.Tables.{tab}
 use Rattle.marks.proofs.Bitmaps.{fill_done, fill-short}
 use native.Mathlib.Omega.{arith}
-use Prim.Native.Nat.{◌-◌}
 use borrow.Author.Rules.{rules}
 use Rattle.marks.proofs.laying.fill_all.Statement.{statement}
 use Rattle.marks.proofs.laying.fill_all.Tie as tie

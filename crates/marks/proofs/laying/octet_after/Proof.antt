@@ -1,7 +1,7 @@
 -- The marks left over, and nothing after them.
 use Rattle.marks.proofs.Bitmaps.{octet-after}
 use native.Mathlib.Omega.{arith}
-use Prim.Native.Nat.{◌-◌, ◌*◌}
+use Prim.Native.Nat.{◌*◌}
 use borrow.Author.Rules.{rules}
 use Rattle.marks.proofs.laying.octet_after.Statement.{statement}
 use Rattle.marks.proofs.laying.octet_after.Tie as tie

@@ -1,7 +1,6 @@
 -- The octets of the marks that are there, which are those of n (law put-done); or nothing.
 use Rattle.marks.proofs.Bitmaps.{put-done, put-short}
 use native.Mathlib.Omega.{arith}
-use Prim.Native.Nat.{◌-◌}
 use borrow.Author.Rules.{rules}
 use Rattle.marks.proofs.laying.put.Statement.{statement}
 use Rattle.marks.proofs.laying.put.Tie as tie

@@ -5,7 +5,7 @@ use Rattle.packs.specs.Cover.{over}
 use Rattle.packs.proofs.Over.{over_none, over-all}
 use borrow.Author.Rules.{rules}
 use native.Mathlib.Omega.{arith}
-use Prim.Native.Nat.{ℕ, ◌≤◌, ◌+◌, ◌-◌, ◌*◌}
+use Prim.Native.Nat.{◌≤◌, ◌+◌, ◌-◌, ◌*◌}
 use lib.ListN.{length}
 use Rattle.packs.proofs.packing.pack_over.Statement.{statement}
 use Rattle.packs.proofs.packing.pack_over.Tie as tie

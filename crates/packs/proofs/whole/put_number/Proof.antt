@@ -31,23 +31,21 @@ store-requires c κs =
     )
 
 returns : tie.Need-returns-then-c-room
-returns c =
-    (
-      fit-answer _ _ _ _ _ _ _ _ c.offset-j.ensures c.room.ensures c.below.ensures
-          c.if-c-room.true,
-      c.store.ensures
-          ∙ fit-left _ _ _ _ _ _ _ _ c.offset-j.ensures c.room.ensures c.below.ensures
-          c.if-c-room.true,
-    )
+returns c = (
+  fit-answer _ _ _ _ _ _ _ _ c.offset-j.ensures c.room.ensures c.below.ensures
+      c.if-c-room.true,
+  c.store.ensures
+      ∙ fit-left _ _ _ _ _ _ _ _ c.offset-j.ensures c.room.ensures c.below.ensures
+      c.if-c-room.true,
+)
 
 returns-2 : tie.Need-returns
-returns-2 c =
-    (
-      unfit-answer _ _ _ _ _ _ _ _ c.offset-j.ensures c.room.ensures c.below.ensures
-          c.if-c-room.false,
-      unfit-left _ _ _ _ _ _ _ _ c.offset-j.ensures c.room.ensures c.below.ensures
-          c.if-c-room.false,
-    )
+returns-2 c = (
+  unfit-answer _ _ _ _ _ _ _ _ c.offset-j.ensures c.room.ensures c.below.ensures
+      c.if-c-room.false,
+  unfit-left _ _ _ _ _ _ _ _ c.offset-j.ensures c.room.ensures c.below.ensures
+      c.if-c-room.false,
+)
 
 pub put_number_spec : {M : Type 1} → statement M
 put_number_spec =

@@ -12,8 +12,7 @@ returns : tie.Need-returns
 returns c =
     let w4 = c.wide-4 in
     let w3 = c.wide-3 in
-    let w2 = c.wide-2 in
-    (
+    let w2 = c.wide-2 in (
       ap ones
           (ap₂ (λ (x y : ℕ). x * 256 + y)
           (ap₂ (λ (x y : ℕ). x * 256 + y) (ap₂ (λ (x y : ℕ). x * 256 + y) c.wide.ensures.0 w2.ensures.0)
