@@ -6,12 +6,12 @@ ghost use Rattle.std.specs.Prelude.{◌≡◌};
 ghost use Rattle.rules.specs.Writing.{write_of, output_after};
 ghost use Rattle.framing.specs.Given.{parts};
 
-mod gathering; // gathering.rt: the values at present points
+mod present_values; // present_values.rt: the values at present points
 
 use framing::lay;
-use gathering::put_values;
 use grid::{grid_from, points, the_grid};
 use layout::SEVENS;
+use present_values::put_values;
 use puts::put_four;
 use reply::{unwritten, written};
 use rules::{Form, Scale, Written};

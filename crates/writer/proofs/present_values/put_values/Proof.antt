@@ -5,8 +5,8 @@ use lib.ListN.{length}
 use mathlib.Core.Path.{refl, subst}
 use Rattle.framing.proofs.Ending.{pack-whole}
 use borrow.Author.Rules.{rules}
-use Rattle.writer.proofs.gathering.put_values.Statement.{statement}
-use Rattle.writer.proofs.gathering.put_values.Tie as tie
+use Rattle.writer.proofs.present_values.put_values.Statement.{statement}
+use Rattle.writer.proofs.present_values.put_values.Tie as tie
 
 put-points-requires : tie.Need-put_points-requires
 put-points-requires c κs =

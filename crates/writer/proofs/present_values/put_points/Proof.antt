@@ -10,8 +10,8 @@ use Rattle.rules.specs.Points.{gathered}
 use Rattle.blocks.specs.Passed.{Passed}
 use Rattle.blocks.proofs.Fitting.{Next, next}
 use Rattle.blocks.proofs.Passing.{passed_none, block_more, last-all, part-size, part-value, present-room}
-use Rattle.writer.proofs.gathering.put_points.Statement.{statement}
-use Rattle.writer.proofs.gathering.put_points.Tie as tie
+use Rattle.writer.proofs.present_values.put_points.Statement.{statement}
+use Rattle.writer.proofs.present_values.put_points.Tie as tie
 
 abbrev invariant-loop : tie.invariant-loop-i
 invariant-loop values marks bits held₀ out₀ progress₀ i₀ held out progress i =
