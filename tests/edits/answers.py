@@ -13,7 +13,7 @@ MISSHAPEN = re.compile(
 # What it says of what another failure left.
 WAITS = re.compile(r"was not admitted|was rejected, w(?:as|ere) not checked|which (?:is|are) not proved")
 # A name that Rattle makes of a function's code, for its proof to use, has words of that code in it, so that an edit can take it away.
-RENAMED = r"module `Rattle\.{}\.proofs\.{}\.\w+` has no `[^`]+` that can be named from here"
+RENAMED = r"(?:module|record) `Rattle\.{}\.proofs\.{}\.[^`]+` has no (?:field )?`[^`]+`"
 
 
 def read(path):

@@ -57,7 +57,7 @@ for path, text in [*lines("*.md"), *lines("docs", "**", "*.md")]:
             wrong.append(f"{path}:{i + 1}: {len(line)} columns")
 
 long = collections.Counter()
-for path, text in lines("crates", "*", "**", "*.antt"):
+for path, text in [*lines("crates", "*", "specs", "**", "*.antt"), *lines("crates", "*", "proofs", "**", "*.antt")]:
     long.update(n for n in (120, 140) for line in text if len(line) > n)
 
 for w in wrong:

@@ -5,7 +5,8 @@
 
 ghost use Rattle.std.specs.Prelude.{◌≡◌, ◌∷◌, ◌+◌, ◌<◌, length, drop};
 ghost use Rattle.rules.specs.Table.{any_of};
-ghost use Rattle.rules.specs.Grid.{entry as the_entry, octants, catalogue, lookup, apart as the_apart, the_figures_differ};
+ghost use Rattle.rules.specs.Grid.{entry as the_entry, octants, catalogue, lookup, apart as the_apart};
+ghost use Rattle.rules.specs.Grid.{the_figures_differ};
 ghost use Rattle.rules.specs.Grid.{grid_differs, like_one};
 
 use kinds::{figures_of, geometry_by};

@@ -5,8 +5,10 @@
 
 ghost use Rattle.std.specs.Prelude.{◌≡◌, ◌*◌, ◌<◌, length};
 ghost use Rattle.rules.specs.Counts.{counts_of};
-ghost use Rattle.rules.specs.Chart.{turned as the_turned, spot_of, point_of, the_spot_among, across as the_across, the_point_among};
-ghost use Rattle.rules.specs.Chart.{the_points_on, the_rows_on, the_row_long, the_columns_on, the_spot_on, the_point_on, charted, pointed};
+ghost use Rattle.rules.specs.Chart.{turned as the_turned, spot_of, point_of, the_spot_among, across as the_across};
+ghost use Rattle.rules.specs.Chart.{the_point_among};
+ghost use Rattle.rules.specs.Chart.{the_points_on, the_rows_on, the_row_long, the_columns_on, the_spot_on};
+ghost use Rattle.rules.specs.Chart.{the_point_on, charted, pointed};
 ghost use Rattle.rules.specs.Grid.{the_rectangle_of, shape_of};
 
 use choices::{less, pick};

@@ -14,7 +14,8 @@ ghost use Rattle.rules.specs.Grid.{kind_of, gds_length_of, fields_by, gds_of};
 ghost use Rattle.rules.specs.Writing.{gds_for};
 ghost use Rattle.laws.specs.Signs.{SignFree};
 ghost use Rattle.gds_put.specs.Section.{top_fields, front_fields, edges_fields, count_fields, cylinder_fields};
-ghost use Rattle.gds_put.specs.Section.{plane_fields, cone_fields, unheld_by, the_grid_unheld, the_found_holds, gds_fits};
+ghost use Rattle.gds_put.specs.Section.{plane_fields, cone_fields, unheld_by, the_grid_unheld, the_found_holds};
+ghost use Rattle.gds_put.specs.Section.{gds_fits};
 ghost use Rattle.gds_put.specs.Section.{the_gds_put};
 
 use octants::count;

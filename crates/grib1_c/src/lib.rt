@@ -5,7 +5,8 @@
 ghost use Rattle.std.specs.Prelude.{◌≡◌};
 ghost use Rattle.rules.specs.Chart.{the_row_long, charted, pointed};
 ghost use Rattle.rules.specs.Grid.{shape_of};
-ghost use Rattle.rules.specs.Reading.{header_of, read_of, the_values_after, the_marks_after, section_of, bitmap_of, numbering_of};
+ghost use Rattle.rules.specs.Reading.{header_of, read_of, the_values_after, the_marks_after, section_of, bitmap_of};
+ghost use Rattle.rules.specs.Reading.{numbering_of};
 ghost use Rattle.rules.specs.Cursor.{index_of, the_index_after, cursor_of};
 ghost use Rattle.rules.specs.Display.{display_of};
 ghost use Rattle.rules.specs.Writing.{write_of, output_after, length_for};
@@ -14,7 +15,8 @@ ghost use Rattle.rules.specs.Packing.{pack_of, packed_after};
 ghost use Rattle.framing.specs.Given.{parts as the_parts};
 ghost use Rattle.records.specs.Forms.{the_grid_back, the_form_by, the_scale_by};
 ghost use Rattle.point_records.specs.Records.{the_force_record, the_data_record};
-ghost use Rattle.records.specs.Records.{the_part_record, the_header_record, the_place_record, the_point_record, the_display_record};
+ghost use Rattle.records.specs.Records.{the_part_record, the_header_record, the_place_record, the_point_record};
+ghost use Rattle.records.specs.Records.{the_display_record};
 ghost use Rattle.records.specs.Records.{the_written_record, the_check_record, the_indexed_record, the_cursor_record};
 ghost use Rattle.rules.specs.Bitmap.{lent_as};
 
@@ -95,7 +97,8 @@ pub extern "C" fn grib1_place(grid: GridRecord, point: u32) -> PlaceRecord
 // The grid point that lies at a place of that chart.
 #[unsafe(no_mangle)]
 pub extern "C" fn grib1_point(grid: GridRecord, row: u32, column: u32) -> PointRecord
-    ensures { result ≡ the_point_record (pointed (shape_of (the_grid_back grid)) (record { row = row; column = column })) }
+    ensures { result ≡
+        the_point_record (pointed (shape_of (the_grid_back grid)) (record { row = row; column = column })) }
 {
     grib1::grib1_point(grid, row, column)
 }

@@ -7,7 +7,8 @@ ghost use Rattle.rules.specs.Table.{any_of};
 ghost use Rattle.rules.specs.Bounds.{side_most, points_most, latitude_most, longitude_most};
 ghost use Rattle.rules.specs.Numbers.{not_within, beyond};
 ghost use Rattle.rules.specs.Columns.{all_ones};
-ghost use Rattle.rules.specs.Grid.{points_of, the_grid_from, the_grid_missing, grid_or_zeros, the_no_grid, the_scan_bad, faults_by};
+ghost use Rattle.rules.specs.Grid.{points_of, the_grid_from, the_grid_missing, grid_or_zeros, the_no_grid};
+ghost use Rattle.rules.specs.Grid.{the_scan_bad, faults_by};
 ghost use Rattle.rules.specs.Grid.{grid_faults};
 
 use catalogue::{catalogued, is_octant};

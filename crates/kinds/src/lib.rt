@@ -4,7 +4,8 @@
 ghost use Rattle.std.specs.Prelude.{◌≡◌};
 ghost use Rattle.rules.specs.declared.Geometry.TheVariants.{LatLon, Thinned, Mercator, Lambert, Gaussian, Polar};
 ghost use Rattle.rules.specs.declared.Start.TheVariants.{Neither};
-ghost use Rattle.rules.specs.Figures.{the_start_number, start_by, the_geometry_by, figures, none, the_figures_of, the_edges_in, the_plane_in};
+ghost use Rattle.rules.specs.Figures.{the_start_number, start_by, the_geometry_by, figures, none, the_figures_of};
+ghost use Rattle.rules.specs.Figures.{the_edges_in, the_plane_in};
 ghost use Rattle.rules.specs.Figures.{the_cylinder_in, the_cone_in, the_belts_in, the_geometry_of};
 
 use octets::plain;

@@ -4,7 +4,8 @@
 
 ghost use Rattle.std.specs.Prelude.{◌<◌, ◌≡◌};
 ghost use Rattle.rules.specs.Table.{any_of, first_or};
-ghost use Rattle.rules.specs.Places.{pds_start, the_end_start, the_has_grid, the_has_bitmap, places_of, the_size_bad, the_grib_bad, the_edition_bad};
+ghost use Rattle.rules.specs.Places.{pds_start, the_end_start, the_has_grid, the_has_bitmap, places_of, the_size_bad};
+ghost use Rattle.rules.specs.Places.{the_grib_bad, the_edition_bad};
 ghost use Rattle.rules.specs.Places.{total_faults};
 ghost use Rattle.rules.specs.Walk.{section_rows, walk_rows};
 ghost use Rattle.laws.specs.Groups.{layout_rows};

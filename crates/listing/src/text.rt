@@ -1,6 +1,7 @@
 // Pieces of text put into a lent one: each is put at a place and answers the place after it. Letters are octets.
 ghost use Rattle.std.specs.Prelude.{◌≡◌, [], ◌∷◌, ◌+◌, ◌<◌, ◌≤◌, ◌^◌, nat_abs, length};
-ghost use Rattle.rules.specs.Listing.{digit as the_digit, numeral as the_numeral, decimal as the_decimal, decimal_signed};
+ghost use Rattle.rules.specs.Listing.{digit as the_digit, numeral as the_numeral, decimal as the_decimal};
+ghost use Rattle.rules.specs.Listing.{decimal_signed};
 ghost use Rattle.rules.specs.Listing.{hex_digits, ended};
 ghost use Rattle.listing.specs.Text.{Wrote};
 

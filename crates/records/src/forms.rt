@@ -1,7 +1,8 @@
 // The record that comes in from C: what writer and packer are to choose. Any numbers in it stand for a form; a kind
 // that has no name for one that the writer refuses.
 ghost use Rattle.std.specs.Prelude.{◌≡◌};
-ghost use Rattle.records.specs.Forms.{the_figures_back, the_grid_back, the_grid_by, the_bitmap_by, the_form_by, the_scale_by};
+ghost use Rattle.records.specs.Forms.{the_figures_back, the_grid_back, the_grid_by, the_bitmap_by, the_form_by};
+ghost use Rattle.records.specs.Forms.{the_scale_by};
 
 use crate::GridRecord;
 use kinds::geometry_of;

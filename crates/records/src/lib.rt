@@ -3,8 +3,10 @@
 #![tactic(auto)]
 
 ghost use Rattle.std.specs.Prelude.{◌≡◌};
-ghost use Rattle.records.specs.Records.{the_bitmap_kind, the_bitmap_number, the_part_record, the_grid_record, the_header_record};
-ghost use Rattle.records.specs.Records.{the_place_record, the_point_record, the_display_record, the_written_record, the_check_record};
+ghost use Rattle.records.specs.Records.{the_bitmap_kind, the_bitmap_number, the_part_record, the_grid_record};
+ghost use Rattle.records.specs.Records.{the_header_record};
+ghost use Rattle.records.specs.Records.{the_place_record, the_point_record, the_display_record, the_written_record};
+ghost use Rattle.records.specs.Records.{the_check_record};
 ghost use Rattle.records.specs.Records.{the_indexed_record, the_cursor_record};
 
 mod forms; // forms.rt: the record that comes in

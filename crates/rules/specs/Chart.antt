@@ -87,4 +87,5 @@ charted g k = cond (ltb k.0 (the_points_on g)) (On (the_spot_on g k.0)) Off
 
 unfoldable pub pointed : Shape → Spot → Pointed
 pointed g c =
-    cond (ltb c.row (the_rows_on g) && ltb c.column (the_row_long g c.row)) (At (record { 0 = the_point_on g c })) Nowhere
+    cond (ltb c.row (the_rows_on g) && ltb c.column (the_row_long g c.row))
+    (At (record { 0 = the_point_on g c })) Nowhere

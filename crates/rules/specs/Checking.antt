@@ -1,5 +1,6 @@
 -- Document 01, "Packing and checking": the source field, and the checker's table.
-use Rattle.std.specs.Prelude.{ℕ, ◌*◌, ◌^◌, Bool, not, ◌&&◌, ◌||◌, List, [], ◌∷◌, ◌++◌, ltb, eqb, ℤ, pos, nat_abs, ◌-ℤ◌, length, get_or}
+use Rattle.std.specs.Prelude.{ℕ, ◌*◌, ◌^◌, Bool, not, ◌&&◌, ◌||◌, List, [], ◌∷◌, ◌++◌, ltb, eqb, ℤ, pos, nat_abs, ◌-ℤ◌}
+use Rattle.std.specs.Prelude.{length, get_or}
 use Rattle.std.specs.Int.Signed.{lt_z}
 use Rattle.rules.specs.declared.{Refusal.Refusal, Scale.Scale}
 use Rattle.rules.specs.Bounds.{points_most, source_most, step_most}

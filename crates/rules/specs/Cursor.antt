@@ -1,7 +1,8 @@
 -- Document 02, R-6: the value or absence at one place of the chart, by an index of the ones before each group of grid
 -- points. The ones are those of the bitmap in force; "With no bitmap every point counts as a one", as `present_in` has
 -- it.
-use Rattle.std.specs.Prelude.{ℕ, ◌+◌, ◌-◌, ◌*◌, ◌/◌, ◌%◌, Bool, true, false, not, cond, List, [], ◌∷◌, ◌++◌, ltb, eqb, length, get_or}
+use Rattle.std.specs.Prelude.{ℕ, ◌+◌, ◌-◌, ◌*◌, ◌/◌, ◌%◌, Bool, true, false, not, cond, List, [], ◌∷◌, ◌++◌, ltb, eqb}
+use Rattle.std.specs.Prelude.{length, get_or}
 use Rattle.rules.specs.declared.{Refusal.Refusal, Shape.Shape, Spot.Spot, Pointed.Pointed}
 use Rattle.rules.specs.declared.{Pointed.TheVariants.At, Pointed.TheVariants.Off as Nowhere, Indexed.Indexed}
 use Rattle.rules.specs.declared.{UnderCursor.UnderCursor, UnderCursor.TheVariants.Refused}
@@ -111,4 +112,5 @@ under_at s lent index i =
 
 unfoldable pub cursor_of : List ℕ → Lent → List ℕ → Spot → UnderCursor
 cursor_of s lent index c =
-    let r = cursor_refusal s lent index c in answered r (under_at s lent index (the_point_on (shape_in s) c)) (Refused r)
+    let r = cursor_refusal s lent index c in
+    answered r (under_at s lent index (the_point_on (shape_in s) c)) (Refused r)

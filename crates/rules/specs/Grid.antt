@@ -1,6 +1,7 @@
 -- Document 01, "GDS", the catalogue, and refusals 7 to 9; document 02, R-1, the thinned octants, and R-4, "Mercator,
 -- Lambert, Gaussian and polar stereographic grids".
-use Rattle.std.specs.Prelude.{ℕ, zero, suc, ◌+◌, ◌*◌, Bool, true, false, not, ◌&&◌, ◌||◌, cond, List, [], ◌∷◌, ◌++◌, map, ltb, eqb, ℤ, pos, negsuc}
+use Rattle.std.specs.Prelude.{ℕ, zero, suc, ◌+◌, ◌*◌, Bool, true, false, not, ◌&&◌, ◌||◌, cond, List, [], ◌∷◌, ◌++◌}
+use Rattle.std.specs.Prelude.{map, ltb, eqb, ℤ, pos, negsuc}
 use Rattle.std.specs.Int.Signed.{lt_z}
 use Rattle.rules.specs.declared.{Signed.Signed, Part.Part, Start.Start, Start.TheVariants.Equator}
 use Rattle.rules.specs.declared.{Start.TheVariants.Pole, Start.TheVariants.Neither, Shape.Shape}

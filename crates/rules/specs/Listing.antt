@@ -1,5 +1,6 @@
 -- Document 01, "The listing program": the text that it writes for the octets of its standard input.
-use Rattle.std.specs.Prelude.{ℕ, zero, suc, ◌+◌, ◌-◌, ◌/◌, ◌%◌, ◌^◌, cond, List, [], ◌∷◌, ◌++◌, ltb, eqb, ℤ, pos, negsuc, length, get_or}
+use Rattle.std.specs.Prelude.{ℕ, zero, suc, ◌+◌, ◌-◌, ◌/◌, ◌%◌, ◌^◌, cond, List, [], ◌∷◌, ◌++◌, ltb, eqb, ℤ, pos}
+use Rattle.std.specs.Prelude.{negsuc, length, get_or}
 use Rattle.bits.specs.Tables.{tab, least_below}
 use Rattle.rules.specs.declared.{Refusal.Refusal, Shape.Shape, Header.Header}
 use Rattle.rules.specs.Bounds.{listed_most, listed_room}
@@ -77,7 +78,8 @@ cell present values i = cond (eqb (present i) 1) (decimal (value_of values i)) (
 
 -- "a line per chart row from north"
 unfoldable pub row_line : (ℕ → ℕ) → List ℕ → Shape → ℕ → List ℕ
-row_line present values g r = line (λ c. cell present values (the_point_on g (record { row = r; column = c }))) (the_row_long g r)
+row_line present values g r =
+    line (λ c. cell present values (the_point_on g (record { row = r; column = c }))) (the_row_long g r)
 
 unfoldable pub row_lines : (ℕ → ℕ) → List ℕ → Shape → List ℕ
 row_lines present values g = joined_to (row_line present values g) (the_rows_on g)

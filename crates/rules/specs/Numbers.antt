@@ -1,5 +1,6 @@
 -- Document 01, "Octets and bits are counted from 1 .. Numbers are high octet first", and "Numbers": sign and magnitude.
-use Rattle.std.specs.Prelude.{ℕ, suc, ◌+◌, ◌-◌, ◌*◌, ◌/◌, ◌%◌, ◌^◌, List, [], ◌∷◌, ◌++◌, Bool, cond, ◌||◌, ltb, eqb, ℤ, pos, negsuc, neg_ℤ, nat_abs, get_or}
+use Rattle.std.specs.Prelude.{ℕ, suc, ◌+◌, ◌-◌, ◌*◌, ◌/◌, ◌%◌, ◌^◌, List, [], ◌∷◌, ◌++◌, Bool, cond, ◌||◌, ltb, eqb, ℤ}
+use Rattle.std.specs.Prelude.{pos, negsuc, neg_ℤ, nat_abs, get_or}
 use Rattle.std.specs.Int.Signed.{lt_z}
 use Rattle.rules.specs.declared.{Signed.Signed}
 use Rattle.bits.specs.Bits.{bit_of, bits_in, run, runs}

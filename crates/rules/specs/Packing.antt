@@ -1,5 +1,6 @@
 -- Document 01, "Packing and checking": the packer's choice of R, X and E, its table and its message.
-use Rattle.std.specs.Prelude.{ℕ, zero, suc, ◌+◌, ◌-◌, ◌*◌, ◌/◌, ◌^◌, Bool, not, ◌&&◌, cond, List, ◌∷◌, ltb, leb, eqb, ℤ, pos, negsuc, nat_abs, ◌-ℤ◌, length}
+use Rattle.std.specs.Prelude.{ℕ, zero, suc, ◌+◌, ◌-◌, ◌*◌, ◌/◌, ◌^◌, Bool, not, ◌&&◌, cond, List, ◌∷◌, ltb, leb, eqb, ℤ}
+use Rattle.std.specs.Prelude.{pos, negsuc, nat_abs, ◌-ℤ◌, length}
 use Rattle.std.specs.Int.Signed.{lt_z}
 use Rattle.rules.specs.declared.{Refusal.Refusal, Form.Form, Written.Written}
 use Rattle.rules.specs.Bounds.{source_most, step_most}
@@ -86,4 +87,5 @@ unfoldable pub pack_of : List ℕ → Form → Lent → Source → List ℕ → 
 pack_of pds form lent f out = length_of (pack_refusal pds form lent f out) (message (packed_parts pds form lent f))
 
 unfoldable pub packed_after : List ℕ → Form → Lent → Source → List ℕ → List ℕ
-packed_after pds form lent f out = filled (pack_refusal pds form lent f out) (message (packed_parts pds form lent f)) out
+packed_after pds form lent f out =
+    filled (pack_refusal pds form lent f out) (message (packed_parts pds form lent f)) out

@@ -11,8 +11,10 @@ use Rattle.rules.specs.Places.{no_part, pds_start, the_has_grid, the_has_bitmap,
 use Rattle.rules.specs.Places.{the_grib_bad, the_edition_bad, total_faults}
 use Rattle.rules.specs.Walk.{walk_of}
 use Rattle.rules.specs.Time.{the_moment_at, no_moment, time_faults}
-use Rattle.rules.specs.Grid.{the_grid_at, the_grid_from, the_grid_missing, the_no_grid, grid_or_zeros, the_gds_bad, points_of, grid_faults}
-use Rattle.rules.specs.Bitmap.{Lent, the_bitmap_at, bitmap_faults, InForce, in_force, no_bitmap, bitmap_octets, present_by}
+use Rattle.rules.specs.Grid.{the_grid_at, the_grid_from, the_grid_missing, the_no_grid, grid_or_zeros, the_gds_bad}
+use Rattle.rules.specs.Grid.{points_of, grid_faults}
+use Rattle.rules.specs.Bitmap.{Lent, the_bitmap_at, bitmap_faults, InForce, in_force, no_bitmap, bitmap_octets}
+use Rattle.rules.specs.Bitmap.{present_by}
 use Rattle.rules.specs.Bitmap.{marks_of, marks_long}
 use Rattle.rules.specs.Points.{Numbering, outside, the_data_number, scattered}
 use Rattle.rules.specs.Values.{the_packing_at, scale_at, packing_faults, the_length_bad, values_at}

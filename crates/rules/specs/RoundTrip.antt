@@ -9,7 +9,8 @@ use Rattle.rules.specs.Table.{any_of}
 use Rattle.rules.specs.Places.{octets_of, pds_start, the_has_grid, places_of}
 use Rattle.rules.specs.Grid.{grid_stains}
 use Rattle.rules.specs.Bitmap.{Lent}
-use Rattle.rules.specs.Reading.{grid_in, bitmap_in, packing_in, the_scale_in, points_in, present_count, values_in, marks_in}
+use Rattle.rules.specs.Reading.{grid_in, bitmap_in, packing_in, the_scale_in, points_in, present_count, values_in}
+use Rattle.rules.specs.Reading.{marks_in}
 use Rattle.rules.specs.Writing.{Parts}
 
 -- the parts that reading a message gives, as the writer takes them

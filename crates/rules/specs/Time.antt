@@ -42,4 +42,5 @@ no_moment = record { year = 0; month = 0; day = 0; hour = 0; minute = 0 }
 
 -- 6: "time out of its ranges"
 unfoldable pub time_faults : List ℕ → ℕ → List Bool
-time_faults s p = moment_faults (octet s p 25) (octet s p 13) (octet s p 14) (octet s p 15) (octet s p 16) (octet s p 17)
+time_faults s p =
+    moment_faults (octet s p 25) (octet s p 13) (octet s p 14) (octet s p 15) (octet s p 16) (octet s p 17)

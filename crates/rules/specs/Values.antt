@@ -1,5 +1,6 @@
 -- Document 01, "BDS" and refusals 11 and 12; "Numbers": what R stands for.
-use Rattle.std.specs.Prelude.{ℕ, ◌+◌, ◌-◌, ◌*◌, ◌/◌, ◌%◌, ◌^◌, Bool, not, ◌||◌, cond, List, [], ◌∷◌, ltb, leb, eqb, ℤ, pos, neg_ℤ, length}
+use Rattle.std.specs.Prelude.{ℕ, ◌+◌, ◌-◌, ◌*◌, ◌/◌, ◌%◌, ◌^◌, Bool, not, ◌||◌, cond, List, [], ◌∷◌, ltb, leb, eqb, ℤ}
+use Rattle.std.specs.Prelude.{pos, neg_ℤ, length}
 use Rattle.rules.specs.declared.{Signed.Signed, Part.Part, Packing.Packing, Scale.Scale}
 use Rattle.rules.specs.Bounds.{the_bits_most, bds_head}
 use Rattle.bits.specs.Bits.{bits_in, runs, octets_for}

@@ -1,5 +1,6 @@
 -- Document 01, writing: its rows 5, 6, 7, 9, 10, 11, 13, 14 over the parts given, and the octets of the message.
-use Rattle.std.specs.Prelude.{ℕ, ◌+◌, ◌%◌, ◌^◌, Bool, true, false, not, ◌&&◌, ◌||◌, cond, List, [], ◌∷◌, ltb, leb, eqb, pos, length}
+use Rattle.std.specs.Prelude.{ℕ, ◌+◌, ◌%◌, ◌^◌, Bool, true, false, not, ◌&&◌, ◌||◌, cond, List, [], ◌∷◌, ltb, leb, eqb}
+use Rattle.std.specs.Prelude.{pos, length}
 use Rattle.rules.specs.declared.{Refusal.Refusal, Found.Found, Found.TheVariants.Nothing}
 use Rattle.rules.specs.declared.{Found.TheVariants.Given, Bitmap.Bitmap, Bitmap.TheVariants.Without}
 use Rattle.rules.specs.declared.{Bitmap.TheVariants.Carried, Bitmap.TheVariants.Stored, Form.Form, Scale.Scale}

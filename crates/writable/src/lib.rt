@@ -10,7 +10,8 @@ ghost use Rattle.rules.specs.Places.{the_has_grid, the_has_bitmap};
 ghost use Rattle.rules.specs.Bitmap.{the_bitmap_given, marks_long, lent_as};
 ghost use Rattle.rules.specs.Writing.{pds_faults, stored_faults, the_grid_given};
 ghost use Rattle.marks.specs.Marks.{strays};
-ghost use Rattle.writable.specs.Rows.{front_rows, exponent_faults, middle_rows, early_rows, the_points_bad, list_faults};
+ghost use Rattle.writable.specs.Rows.{front_rows, exponent_faults, middle_rows, early_rows, the_points_bad};
+ghost use Rattle.writable.specs.Rows.{list_faults};
 ghost use Rattle.writable.specs.Rows.{own_rows, ForAny};
 
 mod unlisted; // unlisted.rt: the same by the marks alone, of values in no list
