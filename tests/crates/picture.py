@@ -48,6 +48,9 @@ def says(name):
         if os.path.exists(full):
             words = []
             for line in open(full, encoding="utf-8"):
+                # the attributes of a root may stand above its comment
+                if not words and (line.startswith("#![") or not line.strip()):
+                    continue
                 if not line.startswith(("// ", "-- ")):
                     break
                 words.append(line[3:].strip())

@@ -17,7 +17,7 @@ EXCEPTIONS = {
 }
 # a weaker statement: function, what of its reply is fixed, and why not all
 WEAKER = {
-    ("handed_back", "section"): ("(λ κs. apparent)", "the ghost name of the reference handed back is the proof's own; no program sees it"),
+    ("handed_back", "section"): ("(λ κs. apparent)", "said of what a program can see of the reference handed back: where it points, and what lies there"),
     ("handed_back", "in_force"): ("(λ κs. apparent)", "as handed_back::section"),
 }
 
@@ -120,6 +120,6 @@ if wrong:
 print(f"tight: {covered} public functions of {len(with_functions)} libraries, each with a statement over its own contract")
 print(f"tight: {thin} functions of {len(static)} static libraries, each one call of such a function with its contract")
 for (crate, path), (_, why) in WEAKER.items():
-    print(f"tight: {crate}::{path} is fixed but for a ghost name: {why}")
+    print(f"tight: {crate}::{path} is fixed: {why}")
 for (crate, path), why in EXCEPTIONS.items():
     print(f"tight: {crate}::{path} has none: {why}")

@@ -1,5 +1,4 @@
--- The contracts of `handed_back` are tight, but for the ghost name of the reference that hands a part back, which no
--- program can see.
+-- The contracts of `handed_back` are tight; of a part handed back what a program can see of the reference.
 use mathlib.Core.Path.{◌≡◌, refl, sym, ◌∙◌}
 use mathlib.Core.Bool.{Bool, true, false, cond}
 use mathlib.Core.List.{List}

@@ -56,7 +56,7 @@ TightBy T seen c = (k : Call T) (g h : (said c k).ghost) (x y : Reply k) (ws vs 
 abbrev pub Tight : (T : Ended) → Contract T → Type 2
 Tight T = TightBy T {S = Res T.signature} (λ κs x. x)
 
--- what a program can see of a reference: the block and the place that it points at, and what lies there. Its ghost name
--- is the proof's own
+-- what a program can see of a reference: the block and the place that it points at, and what lies there; a reference of
+-- today's prover has nothing else
 abbrev pub apparent : Bor (List ℕ) → (ℕ × ℕ) × List ℕ
 apparent r = (r.ref_ptr, r.now)
