@@ -8,7 +8,7 @@ Answer = collections.namedtuple("Answer", "name places")  # places: (file, old t
 
 # What the prover says of a proof that is no longer a proof, rather than of a fact that is no longer so.
 MISSHAPEN = re.compile(
-    r"not in scope|unknown (?:name|field|module)|no field|parse|syntax|cannot find|is not defined|too (?:many|few) arguments|that can be named from here|does not cover"
+    r"not in scope|unknown (?:name|field|module)|no field|\bparse\b|syntax|cannot find|is not defined|too (?:many|few) arguments|that can be named from here|does not cover"
 )
 # What it says of what another failure left.
 WAITS = re.compile(r"was not admitted|was rejected, w(?:as|ere) not checked|which (?:is|are) not proved")
