@@ -30,7 +30,7 @@ struct Numbers {
 }
 
 // Document 01's seven grids, then the octants of document 02.
-const CATALOGUE: [Numbers; 15] = [
+static CATALOGUE: [Numbers; 15] = [
     Numbers {
         number: 2,
         ni: 144,

@@ -1,4 +1,4 @@
--- A present point's X: the n bits at its data number, by the law data-at; and 17 with it.
+-- A present point's X: the n bits at its data number, by the law data_at; and 17 with it.
 use mathlib.Core.Path.{◌≡◌, refl, sym, ap, ◌∙◌, subst}
 use mathlib.Core.Bool.{Bool, true, false, ◌&&◌, cond}
 use mathlib.Core.List.{List}

@@ -1,4 +1,4 @@
--- Each value held after the first 256 is stored 256 places before it (law keep-turn).
+-- Each value held after the first 256 is stored 256 places before it (law keep_turn).
 use borrow.Author.Rules.{rules}
 use native.Mathlib.Omega.{arith}
 use Prim.Native.Nat.{◌≤◌, ◌-◌}

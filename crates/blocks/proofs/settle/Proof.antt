@@ -1,5 +1,5 @@
--- Settling's three ends: fewer than 256 held, 256 packed, and no room for them (laws settle-few, settle-packed,
--- settle-kept).
+-- Settling's three ends: fewer than 256 held, 256 packed, and no room for them (laws settle_few, settle_packed,
+-- settle_kept).
 use borrow.Author.Rules.{rules}
 use native.Mathlib.Omega.{arith}
 use Rattle.blocks.proofs.Settled.{settle_few, settle_packed, settle_kept}

@@ -21,7 +21,7 @@ mul-entry : tie.Need-offset_bounds-i
 unfolding rectangles octants catalogue
 mul-entry c = let l : c.args.i < 15 = c.requires in search rules
 
-array-copy-out-entry : tie.Need-bounds-i-i
+array-copy-out-entry : tie.Need-bounds-i
 unfolding rectangles octants catalogue
 array-copy-out-entry c = let l : c.args.i < 15 = c.requires in search rules
 

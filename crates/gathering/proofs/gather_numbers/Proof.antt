@@ -1,4 +1,4 @@
--- A block that fits is gathered (law where-fit), and another leaves the list as it was.
+-- A block that fits is gathered (law where_fit), and another leaves the list as it was.
 use borrow.Author.Rules.{rules}
 use lib.ListN.{length}
 use mathlib.Core.Path.{sym, ◌∙◌}

@@ -1,5 +1,5 @@
 -- A turn stores one value at the place reached and moves the place by its mark: the list held is that of one point more
--- (law gather-turn).
+-- (law gather_turn).
 use borrow.Author.Rules.{rules}
 use native.Mathlib.Omega.{arith}
 use Prim.Native.Nat.{ℕ, ◌≤◌, ◌+◌, ◌-◌}

@@ -1,4 +1,4 @@
--- The tests one after another (laws as-edges to as_none).
+-- The tests one after another (laws as_edges to as_none).
 use Rattle.kinds.proofs.Laws.{as_edges, as_thinned, as_mercator, as_lambert, as_gaussian, as_polar, as_none}
 use borrow.Author.Rules.{rules}
 use Rattle.kinds.proofs.geometry_of.Statement.{statement}

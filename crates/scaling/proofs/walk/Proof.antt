@@ -1,4 +1,4 @@
--- One walk: what it keeps is that of the points passed, a block more in a turn (law fold-block), and the rest of the
+-- One walk: what it keeps is that of the points passed, a block more in a turn (law fold_block), and the rest of the
 -- longer list adds nothing; the measure is what is left of the shorter.
 use mathlib.Core.Path.{◌≡◌, refl, ap, ◌∙◌, subst}
 use mathlib.Core.Bool.{not}

@@ -1,5 +1,5 @@
 -- The eight points of an octet from the last down: whole octets of absent or of present points need no bit. Each turn
--- is the law octet-turn.
+-- is the law octet_turn.
 use mathlib.Core.Path.{refl, sym, ◌∙◌}
 use Rattle.bits.proofs.Runs.{bits_at}
 use Rattle.field.proofs.Spreading.{Settled, octet_asks, octet_turn, settled_octet, octet-none, octet-all}

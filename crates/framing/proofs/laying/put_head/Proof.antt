@@ -1,4 +1,4 @@
--- What stands before the data, and the last octet cleared (law head-placed), the section's length holding its bits (law
+-- What stands before the data, and the last octet cleared (law head_placed), the section's length holding its bits (law
 -- bds-held).
 use mathlib.Core.Path.{refl}
 use native.Mathlib.Omega.{arith}

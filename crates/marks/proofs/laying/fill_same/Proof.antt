@@ -1,4 +1,4 @@
--- Each mark put fills the list further (law mark-turn); the measure is what is left of the points.
+-- Each mark put fills the list further (law mark_turn); the measure is what is left of the points.
 use mathlib.Core.Path.{◌≡◌, refl}
 use lib.ListN.{length-set}
 use Rattle.marks.proofs.Bitmaps.{Marked, mark_turn, marks-same}

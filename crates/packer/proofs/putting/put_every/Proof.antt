@@ -1,4 +1,4 @@
--- X of a block made where it is held, and packed from there (laws steps-part and every_more).
+-- X of a block made where it is held, and packed from there (laws steps_part and every_more).
 use borrow.Author.Rules.{rules}
 use native.Mathlib.Omega.{arith}
 use Prim.Native.Nat.{ℕ, ◌+◌, ◌-◌, ◌*◌, ◌≤◌}

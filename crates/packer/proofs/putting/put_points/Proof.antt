@@ -1,4 +1,4 @@
--- A block of points at a time, as the writer puts them, with X made first (laws steps-part and block_more).
+-- A block of points at a time, as the writer puts them, with X made first (laws steps_part and block_more).
 use borrow.Author.Rules.{rules}
 use native.Mathlib.Omega.{arith}
 use Prim.Native.Nat.{ℕ, ◌+◌, ◌-◌, ◌≤◌, ◌<◌}
