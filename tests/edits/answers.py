@@ -68,5 +68,7 @@ def function_at(crates, crate, file, old, at=None):
     module = file[len("src/") : -len(".rt")]
     path = () if module in ("lib", "main") else tuple(module.split("/"))
     if head.group(1):  # a method, of the type before it
-        path += (re.findall(r"^impl(?:<[^>]*>)? (\w+)", text[: head.start()], re.M)[-1],)
+        # of an impl of a trait, its proofs are under the type's name and the trait's
+        first, of = re.findall(r"^impl(?:<[^>]*>)? (\w+)(?: for (\w+))?", text[: head.start()], re.M)[-1]
+        path += (of[:1].upper() + of[1:] + first,)
     return (*path, head.group(2))

@@ -2,8 +2,8 @@
 
 - A name that a `specs` defines is defined in no other `specs`.
 - Every function of code has a comment over it.
-- No line of code (.rt), of the definitions of the rules, and of prose is over 120 columns; tables and quoted code are free. Of proofs
-  (.antt) the longer lines are counted and printed.
+- No line of code (.rt), of the definitions of the rules, and of prose is over 120 columns; tables and quoted code are free, and the
+  attribute #[tactic(..)], which rt fmt keeps in one line. Of proofs (.antt) the longer lines are counted and printed.
 """
 
 import collections
@@ -46,7 +46,7 @@ for path, text in lines("crates", "*", "src", "**", "*.rt"):
                 wrong.append(f"{path}:{i + 1}: {m[1]} has no comment")
 
 for path, text in [*lines("crates", "*", "src", "**", "*.rt"), *lines("crates", "rules", "specs", "*.antt")]:
-    wrong += [f"{path}:{i + 1}: {len(line)} columns" for i, line in enumerate(text) if len(line) > WIDTH]
+    wrong += [f"{path}:{i + 1}: {len(line)} columns" for i, line in enumerate(text) if len(line) > WIDTH and not line.startswith("#[tactic(")]
 
 for path, text in [*lines("*.md"), *lines("docs", "**", "*.md")]:
     code = False

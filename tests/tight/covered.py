@@ -11,9 +11,12 @@ crates = os.path.join(root, "crates")
 
 # no statement: function, and why
 SYSTEM = "no contract can say what a call of the operating system read or wrote"
+PROGRAMS = "it stands above this crate, for the programs alone"
 EXCEPTIONS = {
     ("printer", "print_from"): SYSTEM,
     **{("program_io", name): SYSTEM for name in ("read_full", "load", "open_read", "write_all", "write_decimal", "write_hex")},
+    **{("vector_io", name): SYSTEM for name in ("next_size", "load_message", "print_name", "say", "hex", "reply")},
+    **{("vector_io", name): PROGRAMS for name in ("size", "first", "fill", "kept", "added")},
 }
 # a weaker statement: function, what of its reply is fixed, and why not all
 WEAKER = {
@@ -42,8 +45,13 @@ def public(crate):
                 yield (of, found.group(1))
 
 
+# of a generic function, of one type parameter bounded by Copy: over its contract at each type, with what the bound brings
+GENERIC = "(T : RattleType) (C : Clone.Ghosts T.Denot) (d : Dict) → "
 STATEMENT = re.compile(
-    r"^pub «?(?P<name>[\w]+)»? : (?:Tight|TightBy) contracts\.(?P<path>[\w.]+)\.ended(?P<seen> \(.*\))? λ M 𝓤 𝓛\. contracts\.(?P<again>[\w.]+)\.clauses 𝓛$", re.M
+    r"^pub «?(?P<name>[\w]+)»? : (?:(?:Tight|TightBy) contracts\.(?P<path>[\w.]+)\.ended(?P<seen> \(.*\))? λ M 𝓤 𝓛\. contracts\.(?P<again>[\w.]+)\.clauses 𝓛"
+    + "|" + re.escape(GENERIC)
+    + r"Tight \(contracts\.(?P<path_generic>[\w.]+)\.ended T C d\) λ M 𝓤 𝓛\. contracts\.(?P<again_generic>[\w.]+)\.clauses T C d 𝓛)$",
+    re.M,
 )
 
 
@@ -56,9 +64,10 @@ def stated():
         text = read(folder, module + ".antt")
         use = re.search(r"(?m)^use Rattle\.(\w+)\.specs\.contracts as contracts$", text)
         for s in STATEMENT.finditer(text):
-            assert use and s["path"] == s["again"] and s["path"].split(".")[-1] == s["name"], f"tight: {module}: {s['name']} is over another contract"
+            path, again = s["path"] or s["path_generic"], s["again"] or s["again_generic"]
+            assert use and path == again and path.split(".")[-1] == s["name"], f"tight: {module}: {s['name']} is over another contract"
             assert ("TightBy" in s[0]) == bool(s["seen"]), f"tight: {module}: {s['name']} does not say what is seen"
-            found[(use[1], s["path"])] = s["seen"] and s["seen"].strip()
+            found[(use[1], path)] = s["seen"] and s["seen"].strip()
     return found
 
 

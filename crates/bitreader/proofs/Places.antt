@@ -1,25 +1,22 @@
 -- What a caller knows of the places reached: in a message they are sums, and many numbers that fit move the place on.
-use mathlib.Core.Path.{◌≡◌, ap, ap₂, ◌∙◌}
-use mathlib.Core.Bool.{Bool, cond, ◌&&◌}
+use Rattle.std.specs.Prelude.{Some}
+use mathlib.Core.Path.{◌≡◌, refl, ap, ◌∙◌}
+use mathlib.Core.Bool.{Bool, cond}
 use Prim.Native.Nat.{ℕ, ◌+◌, ◌*◌, ◌≤◌}
 use native.Mathlib.Nat.{zero-add}
 use native.Mathlib.Omega.{arith}
 use borrow.Author.Tests.{le-leb}
 use Rattle.rules.specs.Bounds.{bds_head}
 use Rattle.runs.specs.Take.{unpack_fits}
-use Rattle.bitreader.specs.declared.{TakenAll.TakenAll}
 use Rattle.bitreader.specs.Taken.{place_most, reached, taken_all, the_data_place, the_value_place}
 
 pub reached-sum : (at n : ℕ) → at + n ≤ place_most → reached at n ≡ at + n
 unfolding reached
 reached-sum at n h = ap (λ (t : Bool). cond t (at + n) place_most) (le-leb (at + n) place_most h)
 
-pub all-reached : (at n m room : ℕ) → n ≤ 24 → m ≤ room → (t : TakenAll) → t ≡ taken_all at n m room
-    → t.at ≡ reached at (m * n)
+pub all-reached : (at n m room : ℕ) → n ≤ 24 → m ≤ room → taken_all at n m room ≡ Some (reached at (m * n))
 unfolding taken_all unpack_fits
-all-reached at n m room h k t e =
-    ap (λ (x : TakenAll). x.at) e
-    ∙ ap₂ (λ (a b : Bool). cond (a && b) (reached at (m * n)) at) (le-leb n 24 h) (le-leb m room k)
+all-reached at n m room h k = rw (le-leb n 24 h, le-leb m room k) refl
 
 pub data_begins : (b : ℕ) → (b + bds_head) * 8 ≤ place_most → the_data_place b ≡ (b + bds_head) * 8
 unfolding the_data_place

@@ -1,9 +1,9 @@
 -- Document 01, "Values are taken one after another from the place reached in the caller's data octets": a number and
 -- the place after it, many numbers and the place after them, and where the values of a data section begin.
-use Rattle.std.specs.Prelude.{ℕ, ◌+◌, ◌*◌, cond, List, leb}
+use Rattle.std.specs.Prelude.{ℕ, ◌+◌, ◌*◌, cond, List, leb, Option, Some, None}
 use Rattle.rules.specs.Bounds.{bds_head}
 use Rattle.runs.specs.Take.{fetched, unpack_fits}
-use Rattle.bitreader.specs.declared.{Taken.Taken, TakenAll.TakenAll}
+use Rattle.bitreader.specs.declared.{Taken.Taken}
 
 -- the greatest place that 32 bits hold: a message's bits end long before it
 abbrev pub place_most : ℕ
@@ -15,10 +15,9 @@ reached at n = cond (leb (at + n) place_most) (at + n) place_most
 unfoldable pub taken_at : List ℕ → ℕ → ℕ → Taken
 taken_at s at n = record { value = fetched s at n; at = reached at n }
 
--- m numbers of n bits each into a list of so many elements: the place after them; what does not fit leaves the place
-unfoldable pub taken_all : ℕ → ℕ → ℕ → ℕ → TakenAll
-taken_all at n m room =
-    record { fits = unpack_fits n m room; at = cond (unpack_fits n m room) (reached at (m * n)) at }
+-- m numbers of n bits each into a list of so many elements: the place after them; what does not fit reaches none
+unfoldable pub taken_all : ℕ → ℕ → ℕ → ℕ → Option ℕ
+taken_all at n m room = cond (unpack_fits n m room) (Some (reached at (m * n))) None
 
 -- "data from 12": the place where the values of a data section begin that starts at octet b
 unfoldable pub the_data_place : ℕ → ℕ

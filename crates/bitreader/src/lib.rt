@@ -24,13 +24,6 @@ pub struct Taken {
     pub at: u32,
 }
 
-// Whether many numbers were taken, and the place reached after them; where it was if they were not.
-#[derive(Clone, Copy)]
-pub struct TakenAll {
-    pub fits: bool,
-    pub at: u32,
-}
-
 // The place so many bits on; the greatest place stays.
 fn reached(at: u32, bits: u64) -> u32
     requires { bits < 2 ^ 63 }
@@ -43,73 +36,60 @@ fn reached(at: u32, bits: u64) -> u32
     4294967295
 }
 
-// The number of n bits at a place, and the place after it.
-fn step(data: &[u8], at: u32, n: u8) -> Taken
-    ensures { result ≡ taken_at «data».now at n }
-{
-    Taken {
-        value: fetch(data, at, n),
-        at: reached(at, n as u64),
+impl<'a> BitReader<'a> {
+    // A reader of data from a bit place on.
+    pub fn new(data: &'a [u8], at: u32) -> BitReader<'a>
+        ensures { (result.data ≡ «data».entry) × (result.at ≡ at) }
+    {
+        BitReader { data, at }
     }
-}
 
-// The numbers of n bits at a place, into the front of a list, and the place after them.
-fn step_all(s: &[u8], at: u32, n: u8, out: &mut [u32], m: u32) -> TakenAll
-    ensures value { result ≡ taken_all at n m (length out.old) }
-    ensures out_after { out.new ≡ unpacked s.now at n m out.old }
-{
-    if unpack(s, at, n, out, m) {
-        return TakenAll {
-            fits: true,
-            at: reached(at, m as u64 * n as u64),
-        };
+    // The next number of n bits, and the place reached.
+    pub fn next(self, n: u8) -> Taken
+        ensures { result ≡ taken_at self.entry.data.now self.entry.at n }
+    {
+        Taken {
+            value: fetch(self.data, self.at, n),
+            at: reached(self.at, n as u64),
+        }
     }
-    TakenAll { fits: false, at }
-}
 
-// A reader of data from a bit place on.
-pub fn new<'a>(data: &'a [u8], at: u32) -> BitReader<'a>
-    ensures { (result.data ≡ «data».entry) × (result.at ≡ at) }
-{
-    BitReader { data, at }
-}
+    // The same data, from another place on.
+    pub fn moved(self, at: u32) -> BitReader<'a>
+        ensures { (result.data ≡ self.entry.data) × (result.at ≡ at) }
+    {
+        BitReader {
+            data: self.data,
+            at,
+        }
+    }
 
-// The next number of n bits, and the place reached.
-pub fn next<'a>(r: BitReader<'a>, n: u8) -> Taken
-    ensures { result ≡ taken_at r.entry.data.now r.entry.at n }
-{
-    step(r.data, r.at, n)
-}
-
-// The same data, from another place on.
-pub fn moved<'a>(r: BitReader<'a>, at: u32) -> BitReader<'a>
-    ensures { (result.data ≡ r.entry.data) × (result.at ≡ at) }
-{
-    BitReader { data: r.data, at }
+    // The next m numbers of n bits each, into the front of a list, and the place reached. Where n is over 24 or out is
+    // shorter than m nothing changes, and no place is reached.
+    pub fn next_all(self, n: u8, out: &mut [u32], m: u32) -> Option<u32>
+        ensures value { result ≡ taken_all self.entry.at n m (length out.old) }
+        ensures out_after { out.new ≡ unpacked self.entry.data.now self.entry.at n m out.old }
+    {
+        if unpack(self.data, self.at, n, out, m) {
+            return Some(reached(self.at, m as u64 * n as u64));
+        }
+        None
+    }
 }
 
 // From plain octets and a place to a number and the place after it.
 pub fn take(data: &[u8], at: u32, n: u8) -> Taken
     ensures { result ≡ taken_at «data».now at n }
 {
-    next(new(data, at), n)
+    BitReader::new(data, at).next(n)
 }
 
-// The next m numbers of n bits each, into the front of a list, and the place reached. Where n is over 24 or out is
-// shorter than m nothing changes, the place neither.
-pub fn next_all<'a>(r: BitReader<'a>, n: u8, out: &mut [u32], m: u32) -> TakenAll
-    ensures value { result ≡ taken_all r.entry.at n m (length out.old) }
-    ensures out_after { out.new ≡ unpacked r.entry.data.now r.entry.at n m out.old }
-{
-    step_all(r.data, r.at, n, out, m)
-}
-
-// The same from plain octets and a place.
-pub fn take_all(data: &[u8], at: u32, n: u8, out: &mut [u32], m: u32) -> TakenAll
+// Many numbers from plain octets and a place.
+pub fn take_all(data: &[u8], at: u32, n: u8, out: &mut [u32], m: u32) -> Option<u32>
     ensures value { result ≡ taken_all at n m (length out.old) }
     ensures out_after { out.new ≡ unpacked «data».now at n m out.old }
 {
-    next_all(new(data, at), n, out, m)
+    BitReader::new(data, at).next_all(n, out, m)
 }
 
 // Where the values of a data section begin that starts at octet `start`: after its head. The greatest place stays.

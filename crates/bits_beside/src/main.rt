@@ -22,12 +22,10 @@ fn differs(s: &[u8], at: usize, n: u8, v: u32) -> u32
     if v >> n != 0 {
         return 1;
     }
-    let mut j: u8 = 0;
-    while j < n {
+    for j in 0..n {
         if bit(s, at + j as usize) != (v >> (n - 1 - j)) % 2 {
             return 1;
         }
-        j += 1;
     }
     0
 }
@@ -39,11 +37,9 @@ fn values_differ(s: &[u8], at: usize, n: u8, vs: &[u32]) -> u32
 {
     let mut wrong: u32 = 0;
     let mut place = at;
-    let mut i: usize = 0;
-    while i < vs.len() {
-        wrong += differs(s, place, n, vs[i]);
+    for v in vs {
+        wrong += differs(s, place, n, *v);
         place += n as usize;
-        i += 1;
     }
     wrong
 }
@@ -53,15 +49,7 @@ fn bits_differ(s: &[u8], t: &[u8], from: usize, to: usize) -> u32
     requires { to < 65536 }
     ensures { result < 65536 }
 {
-    let mut wrong: u32 = 0;
-    let mut i = from;
-    while i < to {
-        if bit(s, i) != bit(t, i) {
-            wrong += 1;
-        }
-        i += 1;
-    }
-    wrong
+    (from..to).filter(|i| bit(s, *i) != bit(t, *i)).count() as u32
 }
 
 // How many of the n bits from octet p on are ones, bit by bit.
@@ -69,13 +57,9 @@ fn ones(s: &[u8], p: usize, n: u32) -> u32
     requires { (p < 256) × (n < 65536) }
     ensures { result ≤ n }
 {
-    let mut total: u32 = 0;
-    let mut i: u32 = 0;
-    while i < n {
-        total += bit(s, p * 8 + i as usize);
-        i += 1;
-    }
-    total
+    (p * 8..p * 8 + n as usize)
+        .filter(|i| bit(s, *i) == 1)
+        .count() as u32
 }
 
 // Runs fetched one by one, far enough apart that the last lies past the end.
@@ -84,12 +68,9 @@ fn fetch_differs(s: &[u8], n: u8, o: u8) -> u32
     ensures { result < 256 }
 {
     let mut wrong: u32 = 0;
-    let mut k: u32 = 0;
-    let mut place: u32 = o as u32;
-    while k < 5 {
+    for k in 0..5 {
+        let place = o as u32 + k * 4 * n as u32;
         wrong += differs(s, place as usize, n, runs::fetch(s, place, n));
-        place += 4 * n as u32;
-        k += 1;
     }
     wrong
 }
@@ -156,10 +137,8 @@ fn turns_differ(n: u8, o: u8) -> u32
     ensures { result < 256 }
 {
     let mut s = [0u8; 128];
-    let mut k: usize = 0;
-    while k < 128 {
+    for k in 0..128 {
         s[k] = some(k);
-        k += 1;
     }
     let mut vs = [0u32; 39];
     if !runs::unpack(&s, o as u32, n, &mut vs, 39) {
@@ -201,16 +180,12 @@ fn beside(n: u8, o: u8) -> u32
 // Every check at each width and offset, and at how many of these pairs nothing differs.
 fn main(rt: HostRuntime) {
     let mut agree: u64 = 0;
-    let mut n: u8 = 0;
-    while n <= 24 {
-        let mut o: u8 = 0;
-        while o < 8 {
+    for n in 0..25 {
+        for o in 0..8 {
             if beside(n, o) == 0 {
                 agree += 1;
             }
-            o += 1;
         }
-        n += 1;
     }
     program_io::write_decimal(&rt, agree);
     program_io::write_all(&rt, b" of 200 widths and offsets agree\n");

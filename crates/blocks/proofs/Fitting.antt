@@ -2,12 +2,10 @@
 use mathlib.Core.Path.{◌≡◌, refl, sym, ap, ap₂, ◌∙◌}
 use mathlib.Core.Bool.{Bool, true, false, cond, ◌&&◌}
 use mathlib.Core.List.{List}
-use mathlib.Core.Logic.{⊎_elim}
 use Prim.Native.Nat.{ℕ, ◌+◌, ◌-◌, ◌≤◌, ◌<◌}
 use native.Mathlib.Omega.{arith}
 use borrow.Author.Tests.{eq-eqb, lt-ltb, le-ltb, le-leb, leb-true, leb-false, eqb-true}
 use lib.Dec.{eqb, leb}
-use Rattle.bits.proofs.Runs.{lt_or_ge}
 use Rattle.bits.proofs.Tests.{and_left, and_right}
 use Rattle.gathering.specs.Gather.{gather_fits}
 use Rattle.gathering.proofs.Here.{fits_after, fits-none, fits_so}
@@ -37,17 +35,6 @@ pub of-many : (left : ℕ) → 256 ≤ left → 256 ≡ block_of left
 unfolding block_of
 of-many left h = sym (ap (λ (s : Bool). cond s left 256) (le-ltb left 256 h))
 
-pub record Next (left m : ℕ) : Type 0 where
-  pub most : m ≤ 256
-  pub there : m ≤ left
-  pub some : 0 < left → 0 < m
-
-pub next : (left m : ℕ) → m ≡ block_of left → Next left m
-next left m e = ⊎_elim
-    (λ h. let k = of-few left h in record { most = omega arith; there = omega arith; some = λ s. omega arith })
-    (λ h. let k = of-many left h in record { most = omega arith; there = omega arith; some = λ s. omega arith })
-    (lt_or_ge left 256)
-
 module _ (m marked at room : ℕ) (p : Progress) (octets : ℕ) where
   abbrev listed : Bool
   listed = eqb room 512 && leb p.held 512
@@ -55,9 +42,6 @@ module _ (m marked at room : ℕ) (p : Progress) (octets : ℕ) where
   module _ (h : listed && leb at marked ≡ true) where
     held-there : listed ≡ true
     held-there = and_left listed (leb at marked) h
-
-    pub held-most : p.held ≤ 512
-    held-most = leb-true p.held 512 (and_right (eqb room 512) (leb p.held 512) held-there)
 
     pub marks-there : at ≤ marked
     marks-there = leb-true at marked (and_right listed (leb at marked) h)
@@ -99,8 +83,8 @@ module _ (m marked at room : ℕ) (p : Progress) (octets : ℕ) where
     pub fits-place : p.place ≤ octets
     fits-place = leb-true p.place octets (and_left (leb p.place octets) _ places)
 
-    pub fits-gather : gather_fits m (512 - p.held) at marked ≡ true
-    fits-gather = and_right (leb p.place octets) _ places
+    pub fits-gather : gather_fits m (room - p.held) at marked ≡ true
+    fits-gather = ap (λ (x : ℕ). gather_fits m (x - p.held) at marked) fits-room ∙ and_right (leb p.place octets) _ places
 
   pub block-fits : room ≡ 512 → p.held + m ≤ 512 → p.place ≤ octets → at + m ≤ marked
       → block_fits m marked at room p octets ≡ true
@@ -115,13 +99,6 @@ module _ (m marked at room : ℕ) (p : Progress) (octets : ℕ) where
       ) refl
 
 module _ (room : ℕ) (p : Progress) (octets : ℕ) where
-  pub last-known : leb p.held room && leb p.place octets ≡ true → (p.held ≤ room) × (p.place ≤ octets)
-  last-known h = (
-    leb-true p.held room (and_left (leb p.held room) (leb p.place octets) h),
-    leb-true p.place octets
-        (and_right (leb p.held room) (leb p.place octets) h),
-  )
-
   pub last_fits : p.held ≤ room → p.place ≤ octets → the_last_fits room p octets ≡ true
   unfolding the_last_fits
   last_fits h k = ap₂ (λ (x y : Bool). x && y) (le-leb p.held room h) (le-leb p.place octets k)

@@ -4,3 +4,4 @@ pub mod Parts
 pub mod Settled
 pub mod Append
 pub mod Passing
+pub mod Chunks

@@ -1,19 +1,18 @@
 -- What a call on the part of a list from some place on leaves of the whole; and the values held moved to the front.
-use mathlib.Core.Path.{◌≡◌, sym, ap, ap₂, ◌∙◌}
+use mathlib.Core.Path.{◌≡◌, sym, ap, ◌∙◌}
 use mathlib.Core.Bool.{Bool, true, false, cond}
-use mathlib.Core.List.{List, [], ◌∷◌, ◌++◌, append-nil}
-use Prim.Native.Nat.{ℕ, ◌+◌, ◌-◌, ◌≤◌, ◌<◌}
-use native.Mathlib.Numerals.{add-one}
+use mathlib.Core.List.{List, [], ◌++◌, append-nil}
+use Prim.Native.Nat.{ℕ, ◌+◌, ◌-◌, ◌≤◌}
 use native.Mathlib.Omega.{arith}
-use lib.ListN.{length, get_or, set, take, drop, length-append, length-drop, take-append-drop}
-use lib.Seq.{take_all, drop-length, get_or-drop, drop-set-lt, take-suc-set, take-suc}
+use lib.ListN.{length, take, drop, length-append, length-drop, take-append-drop}
+use lib.Seq.{paste, take_all, drop-length}
 use Rattle.bits.specs.Bits.{count}
 use Rattle.bits.proofs.Ones.{count-le}
 use Rattle.rules.specs.Bitmap.{value_of}
 use Rattle.packs.specs.Pack.{pack_fits, packed}
-use Rattle.gathering.specs.Gather.{here_from, gather_into, gather_fits}
+use Rattle.gathering.specs.Gather.{here_from, gather_into, gather_list, gather_fits}
 use Rattle.gathering.proofs.Here.{here-from-bits}
-use Rattle.gathering.proofs.Gathered.{length-gather_into}
+use Rattle.gathering.proofs.Gathered.{length-gather_into, held_into}
 use Rattle.blocks.specs.Block.{held_with, count_with, moved_up, packed_from}
 
 module _ {A : Type 0} (xs : List A) (at : ℕ) where
@@ -63,14 +62,14 @@ module _ (values marks : List ℕ) (at c : ℕ) (held : List ℕ)
 
   pub part-gathered : (q : List ℕ)
       → q ≡ cond (gather_fits (length values) (length (take (length held - c) (drop c held))) at (length marks))
-      (gather_into (here_from marks at) (value_of values) (length values) (take (length held - c) (drop c held)))
+      (gather_list (here_from marks at) values (length values) (take (length held - c) (drop c held)))
       (take (length held - c) (drop c held))
       → take c held ++ (q ++ drop (length held - c) (drop c held)) ≡ held_with values marks at c held
   unfolding held_with
   part-gathered q e =
       let into : List ℕ → List ℕ = gather_into (here_from marks at) (value_of values) (length values) in
       part-after held c q ∙ ap (λ (z : List ℕ). take c held ++ z)
-      (e ∙ ap (λ (t : Bool). cond t (into (take (length held - c) (drop c held)))
+      (e ∙ held_into (here_from marks at) values 0 _ (take (length held - c) (drop c held)) ∙ ap (λ (t : Bool). cond t (into (take (length held - c) (drop c held)))
       (take (length held - c) (drop c held))) fit ∙ ap into (part-is held c))
 
 pub with-few : (values marks : List ℕ) (at c : ℕ) → count_with values marks at c ≤ c + length values
@@ -86,25 +85,7 @@ length-with values marks at c held =
     (length-gather_into (here_from marks at) (value_of values) (length values) (drop c held))
     ∙ sym (length-append (take c held) (drop c held)) ∙ ap length (take-append-drop c held)
 
--- a turn of the loop that moves the last values held to the front
-pub keep_turn : (held first : List ℕ) (j : ℕ) → j < 256 → length held ≡ 512 → length first ≡ 512
-    → drop 256 held ≡ drop 256 first
-    → take j held ≡ take j (drop 256 first)
-    → (drop 256 (set held j (get_or held (256 + j) 0)) ≡ drop 256 first)
-    × (take (j + 1) (set held j (get_or held (256 + j) 0)) ≡ take (j + 1) (drop 256 first))
-keep_turn held first j l a b d t =
-    let y = get_or held (256 + j) 0 in
-    let z : y ≡ get_or (drop 256 first) j 0 = sym (get_or-drop 256 held j 0) ∙ ap (λ (x : List ℕ). get_or x j 0) d in (
-      drop-set-lt 256 held j y (omega arith) ∙ d,
-      ap (λ (k : ℕ). take k (set held j y)) (add-one j) ∙ take-suc-set held j y (omega arith)
-          ∙ ap₂ (λ (x : List ℕ) (k : ℕ). x ++ (k ∷ [])) t z
-          ∙ sym (ap (λ (k : ℕ). take k (drop 256 first)) (add-one j)
-          ∙ take-suc (drop 256 first) j 0 (omega (arith, length-drop 256 first))),
-    )
-
-pub kept : (held first : List ℕ) (j : ℕ) → j ≡ 256 → length first ≡ 512 → drop 256 held ≡ drop 256 first
-    → take j held ≡ take j (drop 256 first) → held ≡ moved_up first
+-- the values held after the first 256 moved to the front
+pub moved : (held : List ℕ) → length held ≡ 512 → paste held 0 (drop 256 held) 256 ≡ moved_up held
 unfolding moved_up
-kept held first j e l d t =
-    let u : take 256 held ≡ drop 256 first = ap (λ (k : ℕ). take k held) (sym e) ∙ t ∙ take_all j (drop 256 first) (omega (arith, length-drop 256 first)) in
-    sym (take-append-drop 256 held) ∙ ap₂ (λ (x y : List ℕ). x ++ y) u d
+moved held l = ap (λ (x : List ℕ). x ++ drop 256 held) (take_all 256 (drop 256 held) (omega (arith, length-drop 256 held)))

@@ -273,11 +273,6 @@ module _ (n : ℕ) (marks : List ℕ) (v : ℕ → ℕ) (N : ℕ) (l : n ≤ 24)
   last-all p held out h q out' e = last-put n (G N) d l (G-wide N) room p held out q h out' e
 
 -- a part of a list
-pub part-size : {A : Type 0} (xs : List A) (i m : ℕ) → i + m ≤ length xs → length (take (i + m - i) (drop i xs)) ≡ m
-part-size xs i m h =
-    let e : i + m - i ≡ m = omega arith in
-    length-take-le (i + m - i) (drop i xs) (omega (arith, length-drop i xs)) ∙ e
-
 pub part-value : (values : List ℕ) (i m j : ℕ) → j < m → value_of (take m (drop i values)) j ≡ value_of values (i + j)
 part-value values i m j h = get_or-take m (drop i values) j 0 h ∙ get_or-drop i values j 0
 

@@ -5,7 +5,7 @@
 
 ghost use Rattle.std.specs.Prelude.{◌≡◌, ◌&&◌, ◌-◌, ◌≤◌, length, take};
 ghost use Rattle.packs.specs.Pack.{pack_fits};
-ghost use Rattle.blocks.specs.Block.{block_of, held_room, moved_up, packed_from, settled_at, settled_held, settled_out};
+ghost use Rattle.blocks.specs.Block.{block_of, held_room, packed_from, settled_at, settled_held, settled_out};
 ghost use Rattle.blocks.specs.Block.{block_fits, block_at, block_held, block_out, the_last_fits, last_out};
 
 use gathering::gather;
@@ -28,22 +28,7 @@ pub struct Progress {
 pub fn block_of(left: usize) -> usize
     ensures { result ≡ block_of left }
 {
-    if left < BLOCK {
-        return left;
-    }
-    BLOCK
-}
-
-// The values held after the first 256 come to the front.
-fn keep(held: &mut [u32])
-    requires { length held.old ≡ held_room }
-    ensures { held.new ≡ moved_up held.old }
-{
-    let mut j: usize = 0;
-    while j < BLOCK {
-        held[j] = held[BLOCK + j];
-        j += 1;
-    }
+    left.min(BLOCK)
 }
 
 // The first c values held packed from octet `place` on.
@@ -55,7 +40,7 @@ fn put_held(held: &[u32], c: usize, bits: u8, place: usize, out: &mut [u8]) -> b
     pack(&held[..c], bits, &mut out[place..])
 }
 
-// Where 256 values or more are held, 256 of them are packed.
+// Where 256 values or more are held, 256 of them are packed, and those after them come to the front.
 fn settle(held: &mut [u32], c: usize, bits: u8, place: usize, out: &mut [u8]) -> Progress
     requires { (length held.old ≡ held_room) × (place ≤ length out.old) }
     ensures value { result ≡ settled_at bits c held.old place out.old }
@@ -69,7 +54,7 @@ fn settle(held: &mut [u32], c: usize, bits: u8, place: usize, out: &mut [u8]) ->
         };
     }
     if put_held(held, BLOCK, bits, place, out) {
-        keep(held);
+        held.copy_within(BLOCK..ROOM, 0);
         return Progress {
             place: place + bits as usize * 32,
             held: c - BLOCK,

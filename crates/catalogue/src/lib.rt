@@ -3,15 +3,14 @@
 // number that it does not have has no grid.
 #![tactic(auto)]
 
-ghost use Rattle.std.specs.Prelude.{◌≡◌, ◌∷◌, ◌+◌, ◌<◌, length, drop};
-ghost use Rattle.rules.specs.Table.{any_of};
-ghost use Rattle.rules.specs.Grid.{entry as the_entry, octants, catalogue, lookup, apart as the_apart};
-ghost use Rattle.rules.specs.Grid.{the_figures_differ};
-ghost use Rattle.rules.specs.Grid.{grid_differs, like_one};
+ghost use Rattle.std.specs.Prelude.{◌≡◌, ◌==◌, find, option_map};
+ghost use Rattle.std.specs.List.{list_any};
+ghost use Rattle.rules.specs.Grid.{octants, catalogue, lookup, same_grid, like_one};
+ghost use Rattle.catalogue.specs.Rows.{stands_for};
 
-use kinds::{figures_of, geometry_by};
+use kinds::geometry_by;
 use octets::plain;
-use rules::{Edges, Entry, Figures, Found, Grid, Signed};
+use rules::{Edges, Grid};
 
 // A row of the table.
 #[derive(Clone, Copy)]
@@ -234,10 +233,9 @@ const RECTANGLES: usize = 7;
 // The resolution flags of every row.
 const FLAGS: u8 = 128;
 
-// What a row's numbers stand for.
-fn entry(n: Numbers) -> Entry
-    ensures { result ≡
-        the_entry n.number n.ni n.nj n.la1 n.lo1 n.la2 n.lo2 n.di n.dj n.scan n.rows }
+// The grid that a row's numbers stand for.
+fn grid_of(n: Numbers) -> Grid
+    ensures { result ≡ (stands_for n).grid }
 {
     let edges = Edges {
         la2: plain(n.la2),
@@ -245,102 +243,50 @@ fn entry(n: Numbers) -> Entry
         di: n.di,
         dj: n.dj,
     };
-    Entry {
-        number: n.number,
-        grid: Grid {
-            ni: n.ni,
-            nj: n.nj,
-            la1: plain(n.la1),
-            lo1: plain(n.lo1),
-            flags: FLAGS,
-            scan: n.scan,
-            geometry: geometry_by(n.rows, edges),
-        },
+    Grid {
+        ni: n.ni,
+        nj: n.nj,
+        la1: plain(n.la1),
+        lo1: plain(n.lo1),
+        flags: FLAGS,
+        scan: n.scan,
+        geometry: geometry_by(n.rows, edges),
     }
 }
 
-// The row of the catalogue at i, by itself: in the loop below the whole table would be walked at every step of the
-// proof.
-fn row(i: usize) -> Entry
-    requires { i < length catalogue }
-    ensures { drop i catalogue ≡ result ∷ drop (i + 1) catalogue }
+// The grid of a number among some rows, whichever they are, so that no proof walks the whole table.
+fn found(rows: &[Numbers], n: u8) -> Option<Grid>
+    ensures { result ≡ option_map (λ r. (stands_for r).grid) (find (λ r. r.number == n) rows.now) }
 {
-    entry(CATALOGUE[i])
+    rows.iter()
+        .find(|row| row.number == n)
+        .map(|row| grid_of(*row))
 }
 
 // The grid of a number in the catalogue.
-pub fn catalogued(n: u8) -> Found
+pub fn catalogued(n: u8) -> Option<Grid>
     ensures { result ≡ lookup catalogue n }
 {
-    let mut i = 0usize;
-    while i < CATALOGUE.len() {
-        let e = row(i);
-        if e.number == n {
-            let g = e.grid;
-            return Found::Given(g);
-        }
-        i += 1;
-    }
-    Found::Nothing
+    found(&CATALOGUE, n)
 }
 
-// Two signed fields of different values.
-fn apart(a: Signed, b: Signed) -> bool
-    ensures { result ≡ the_apart a b }
+// Two grids that differ in no field, signed fields by their values.
+fn same(g: Grid, o: Grid) -> bool
+    ensures { result ≡ same_grid g o }
 {
-    (a.value < b.value) | (b.value < a.value)
+    g == o
 }
 
-// Two geometries that differ in a figure, angles by their values.
-fn figures_differ(x: Figures, y: Figures) -> bool
-    ensures { result ≡ any_of (the_figures_differ x y) }
+// Whether a grid is by value one of some rows.
+fn like_any(rows: &[Numbers], g: Grid) -> bool
+    ensures { result ≡ list_any (λ r. same_grid g (stands_for r).grid) rows.now }
 {
-    (x.kind != y.kind)
-        | (x.rows != y.rows)
-        | apart(x.la2, y.la2)
-        | apart(x.lo2, y.lo2)
-        | (x.di != y.di)
-        | (x.dj != y.dj)
-        | (x.dx != y.dx)
-        | (x.dy != y.dy)
-        | apart(x.lov, y.lov)
-        | apart(x.latin1, y.latin1)
-        | apart(x.latin2, y.latin2)
-        | apart(x.pole_la, y.pole_la)
-        | apart(x.pole_lo, y.pole_lo)
-        | (x.centre != y.centre)
-        | (x.circles != y.circles)
-}
-
-// Two grids that differ in a field, signed fields by their values.
-fn differs(g: Grid, o: Grid) -> bool
-    ensures { result ≡ any_of (grid_differs g o) }
-{
-    let a = g.geometry;
-    let b = o.geometry;
-    let x = figures_of(a);
-    let y = figures_of(b);
-    (g.ni != o.ni)
-        | (g.nj != o.nj)
-        | apart(g.la1, o.la1)
-        | apart(g.lo1, o.lo1)
-        | (g.flags != o.flags)
-        | (g.scan != o.scan)
-        | figures_differ(x, y)
+    rows.iter().any(|row| same(g, grid_of(*row)))
 }
 
 // Whether a grid is "by value one of the eight" octants.
 pub fn is_octant(g: Grid) -> bool
     ensures { result ≡ like_one octants g }
 {
-    let mut i = RECTANGLES;
-    while i < CATALOGUE.len() {
-        let e = row(i);
-        let o = e.grid;
-        if !differs(g, o) {
-            return true;
-        }
-        i += 1;
-    }
-    false
+    like_any(&CATALOGUE[RECTANGLES..], g)
 }

@@ -3,7 +3,7 @@
 use mathlib.Core.Path.{◌≡◌, sym, ap, ap₂, ◌∙◌, subst}
 use mathlib.Core.Bool.{Bool, ◌||◌, ◌&&◌, cond}
 use mathlib.Core.List.{List}
-use Prim.Native.Nat.{ℕ, ◌+◌, ◌*◌, ◌^◌, ◌<◌, ◌≤◌}
+use Prim.Native.Nat.{ℕ, min, ◌+◌, ◌*◌, ◌^◌, ◌<◌, ◌≤◌}
 use native.Mathlib.Nat.{add-mul, zero-add, zero-mul, mul-le-mul}
 use native.Mathlib.Omega.{arith}
 use borrow.Author.Tests.{eq-eqb}
@@ -28,6 +28,7 @@ use Rattle.rules.specs.Bitmap.{mark_of}
 use Rattle.rules.specs.Checking.{far_from}
 use Rattle.laws.specs.Marks.{here}
 use Rattle.gathering.specs.Gather.{here_from}
+use Rattle.gathering.proofs.Chunks.{Chunk}
 use Rattle.gathering.proofs.Here.{here-bits, here-is}
 use Rattle.source.proofs.Blocks.{Gathered, any_block, part, part-long, any_part, any_more, count-from}
 use Rattle.checker.specs.Points.{out, the_block_far}
@@ -114,6 +115,18 @@ place-next numbers marks from n i c l p q h k a b w =
     ∙ reached-sum p (m * n) (omega (arith, add-mul passed m n))
     ∙ omega (arith, add-mul passed m n)
 
+pub place-chunk : (numbers : List ℤ) (marks : List ℕ) (from n : ℕ) (block : List ℤ) (b before next : ℕ)
+    → Chunk numbers block b before next → (p q : ℕ)
+    → p ≡ from + count (here marks) 0 (min (before * 256) (length numbers)) * n
+    → q ≡ reached p (count (here_from marks (b * 256)) 0 (length block) * n)
+    → from < 2 ^ 31 → length numbers ≤ points_most → n ≤ the_bits_most
+    → q ≡ from + count (here marks) 0 (min (next * 256) (length numbers)) * n
+place-chunk numbers marks from n block b before next t p q h k f a w =
+    place-next numbers marks from n (b * 256) (length block) t.inside p q
+    (h ∙ ap (λ (x : ℕ). from + count (here marks) 0 x * n) t.before)
+    (subst (λ (z : List ℤ). q ≡ reached p (count (here_from marks (b * 256)) 0 (length z) * n)) t.here k) f a w
+    ∙ ap (λ (x : ℕ). from + count (here marks) 0 x * n) (sym t.after)
+
 module _ (s : List ℕ) (numbers : List ℤ) (marks : List ℕ) (from n : ℕ) (r : ℤ) (e i c : ℕ) (l : i + c ≤ length numbers)
     (p : ℕ) (h : p ≡ from + count (here marks) 0 i * n) where
   pub far-more : (x y : Bool) → x ≡ any_below (out s numbers marks from n r e) i
@@ -137,3 +150,16 @@ module _ (s : List ℕ) (numbers : List ℤ) (marks : List ℕ) (from n : ℕ) (
         add-mul (count (here marks) 0 i) (count (here_from marks i) 0 j) n,
         ap (λ (x : ℕ). x * n) (count-from marks i j),
       )
+
+pub far-chunk : (s : List ℕ) (numbers : List ℤ) (marks : List ℕ) (from n : ℕ) (r : ℤ) (e : ℕ) (block : List ℤ) (b before next : ℕ)
+    → Chunk numbers block b before next
+    → (p : ℕ) → p ≡ from + count (here marks) 0 (min (before * 256) (length numbers)) * n
+    → (x y : Bool) → x ≡ any_below (out s numbers marks from n r e) (min (before * 256) (length numbers))
+    → y ≡ any_below (the_block_far s block marks (b * 256) p n r e) (length block)
+    → x || y ≡ any_below (out s numbers marks from n r e) (min (next * 256) (length numbers))
+far-chunk s numbers marks from n r e block b before next t p h x y ex ey =
+    far-more s numbers marks from n r e (b * 256) (length block) t.inside p
+    (h ∙ ap (λ (z : ℕ). from + count (here marks) 0 z * n) t.before) x y
+    (ex ∙ ap (any_below (out s numbers marks from n r e)) t.before)
+    (subst (λ (z : List ℤ). y ≡ any_below (the_block_far s z marks (b * 256) p n r e) (length z)) t.here ey)
+    ∙ ap (any_below (out s numbers marks from n r e)) (sym t.after)

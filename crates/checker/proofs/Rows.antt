@@ -1,4 +1,5 @@
 -- Each of the checker's rows as code judges it, from what the header of a taken message says.
+use Rattle.std.specs.Prelude.{Ok}
 use mathlib.Core.Path.{◌≡◌, refl, sym, ap, ap₂, ◌∙◌, subst}
 use mathlib.Core.Bool.{Bool, true, false, not, ◌||◌, cond, or_assoc}
 use mathlib.Core.List.{List}
@@ -16,8 +17,8 @@ use Rattle.bits.proofs.Tests.{or_right}
 use Rattle.bits.specs.Bits.{bits_in, run}
 use Rattle.bits.specs.Tables.{any_below}
 use Rattle.bits.proofs.Runs.{run-lt, bits_in-bits}
-use Rattle.rules.specs.declared.{Places.Places, Bitmap.Bitmap, Packing.Packing, Scale.Scale, Signed.Signed}
-use Rattle.rules.specs.declared.{Header.Header}
+use Rattle.rules.specs.declared.{Places.Places, Bitmap.Bitmap, Packing.Packing, Scale.Scale, Signed.Signed, Header.Header}
+use Rattle.rules.specs.Answers.{header_reply}
 use Rattle.rules.specs.Bounds.{bds_head, the_bits_most, step_most}
 use Rattle.bitreader.specs.Taken.{the_data_place as data_from}
 use Rattle.bitreader.proofs.Places.{data_begins}
@@ -100,12 +101,12 @@ start_small s =
     subst (λ (x : ℕ). x < 2 ^ 26) (sym (start_is s true _)) (omega arith)
 
 -- where the data are, from the header
-module _ (s : List ℕ) (lent : Lent) (h : Header) (e : h ≡ header_of s lent) (z : h.refusal.number ≡ 0) where
+module _ (s : List ℕ) (lent : Lent) (h : Header) (e : Ok h ≡ header_reply (header_of s lent)) where
   pub bits_most : h.packing.bits ≤ the_bits_most
-  bits_most = S.narrow s lent h e z
+  bits_most = S.narrow s lent h e
 
   data_start : h.places.bds.start < 2 ^ 26
-  data_start = subst (λ (x : Places). x.bds.start < 2 ^ 26) (sym (S.places-of s lent h e z)) (start_small s)
+  data_start = subst (λ (x : Places). x.bds.start < 2 ^ 26) (sym (S.places-of s lent h e)) (start_small s)
 
   pub data_begun : (at : ℕ) → at ≡ data_from h.places.bds.start → at ≡ (h.places.bds.start + bds_head) * 8
   data_begun at q = q ∙ data_begins h.places.bds.start (omega (arith, data_start))
@@ -114,17 +115,17 @@ module _ (s : List ℕ) (lent : Lent) (h : Header) (e : h ≡ header_of s lent) 
   data_early at q = omega (arith, data_start, data_begun at q)
 
 -- 15 and 17, from the header
-module _ (s : List ℕ) (lent : Lent) (h : Header) (e : h ≡ header_of s lent) (z : h.refusal.number ≡ 0)
+module _ (s : List ℕ) (lent : Lent) (h : Header) (e : Ok h ≡ header_reply (header_of s lent))
     (numbers : List ℤ) (marks : List ℕ) (d : ℤ) where
   abbrev source : Source
   source = record { numbers = numbers; marks = marks; d = d }
 
   points-of : h.points ≡ points_in s
-  points-of = S.points-of s lent h e z
+  points-of = S.points-of s lent h e
 
   d-of : h.d ≡ decimal_in s
   unfolding found_in found_by
-  d-of = ap (λ (x : Header). x.d) (S.said s lent h e z)
+  d-of = ap (λ (x : Header). x.d) (S.said s lent h e)
 
   -- 15
   pub differ-is : (dv : ℤ) → dv ≡ d → (u t : Bool) → t ≡ the_decimal_differs (to_z w32 (of_z w32 h.d.value)) dv
@@ -157,7 +158,7 @@ module _ (s : List ℕ) (lent : Lent) (h : Header) (e : h ≡ header_of s lent) 
           (λ i. not
           (eqb (present_by x (bitmap_octets s lent.octets (in_force x y.bms (points_in s))) i) (mark_of marks i)))
           (points_in s))
-          (S.bitmap-of s lent h e z) (S.places-of s lent h e z)
+          (S.bitmap-of s lent h e) (S.places-of s lent h e)
 
       go : (c : Bool) → eqb (length numbers) (points_in s) ≡ c
           → not c || u || t
@@ -181,10 +182,10 @@ module _ (s : List ℕ) (lent : Lent) (h : Header) (e : h ≡ header_of s lent) 
       ∙ ap₂ (λ (x : Places) (y : Packing). any_below
       (out s numbers marks ((x.bds.start + bds_head) * 8) y.bits (whole_of h.scale.r)
       (nat_abs h.scale.e.value)) (length numbers))
-      (S.places-of s lent h e z) (S.packing-of s lent h e z)
+      (S.places-of s lent h e) (S.packing-of s lent h e)
       ∙ ap (λ (x : Scale). any_below
       (out s numbers marks (the_data_place s lent) (packing_in s).bits (whole_of x.r) (nat_abs x.e.value))
       (length numbers))
-      (S.scale_of s lent h e z)
+      (S.scale_of s lent h e)
       ∙ point-out s lent source g.points g.marks
       (λ i l. (well_formed source w).marks i (subst (λ (n : ℕ). i < n) (sym g.points) l))

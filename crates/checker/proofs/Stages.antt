@@ -1,113 +1,103 @@
 -- The checker's rows: the message's own, then 18, 15, 16 and 17; 17 is asked for where those before it have passed.
-use mathlib.Core.Path.{◌≡◌, refl, sym, ap, ap₂, ◌∙◌}
-use mathlib.Core.Bool.{Bool, true, false, not, ◌||◌, cond}
-use mathlib.Core.List.{List}
+use Rattle.std.specs.Prelude.{Result, Ok, Err}
+use mathlib.Core.Path.{◌≡◌, sym, ap, ap₂, ◌∙◌}
+use mathlib.Core.Bool.{Bool, false, cond}
+use mathlib.Core.List.{List, [], ◌∷◌}
 use Prim.Native.Nat.{ℕ, ◌+◌, ◌*◌}
-use lib.Dec.{eqb}
 use lib.IntN.{ℤ, nat_abs}
 use lib.ListN.{length}
-use mir.Syntax.{w32}
-use mir.Val.{to_z, of_z}
 use Rattle.bits.specs.Tables.{any_below}
-use Rattle.rules.specs.declared.{Refusal.Refusal, Scale.Scale, Header.Header}
+use Rattle.rules.specs.declared.{Refusal.Refusal, Header.Header}
+use Rattle.rules.specs.Answers.{judged, header_reply, check_reply}
 use Rattle.rules.specs.Bounds.{bds_head}
-use Rattle.rules.specs.Table.{refusal, any_of, first_or, accepted}
-use Rattle.rules.specs.Bitmap.{Lent, mark_of, present_by, bitmap_octets, in_force}
-use Rattle.rules.specs.Values.{whole_of}
-use Rattle.rules.specs.Reading.{own_refusal, header_of}
-use Rattle.rules.specs.Checking.{Source, source_faults, the_decimal_differs, scale_faults, check_table, check_of}
-use Rattle.laws.specs.Sources.{WellFormed}
-use Rattle.laws.proofs.Sources.{well_formed}
+use Rattle.rules.specs.Table.{Row, row, refusal, any_of, first, accepted}
+use Rattle.rules.specs.Bitmap.{Lent}
+use Rattle.rules.specs.Reading.{own_refusal, header_of, the_scale_in}
+use Rattle.rules.specs.Checking.{Source, source_faults, source_differs, scale_faults, point_out, check_table, check_of}
 use Rattle.message.proofs.Said as S
 use Rattle.message.proofs.Stages.{own_first}
+use Rattle.laws.proofs.Rows.{Numbered}
+use Rattle.reply.proofs.Judged.{reply_is, row_stops, judged-first}
 use Rattle.source.specs.Whole.{whole_from}
 use Rattle.bitreader.specs.Taken.{the_data_place}
 use Rattle.checker.specs.Points.{out}
 use Rattle.checker.specs.Stages.{check_rows}
-use Rattle.checker.proofs.Rows.{whole_is, differ-is, out-is, data_begun}
+use Rattle.checker.proofs.Rows.{whole_is, out-is, data_begun}
 
 -- the message's own rows first
 module _ (s : List ℕ) (lent : Lent) (f : Source) where
   checked-after : check_of s lent f
-      ≡ cond (accepted (own_refusal s lent)) (first_or (check_rows s lent f) (refusal 0)) (own_refusal s lent)
-  unfolding check_of check_table check_rows
+      ≡ cond (accepted (own_refusal s lent)) (first (check_rows s lent f)) (own_refusal s lent)
+  unfolding check_of check_table check_rows first
   checked-after = own_first s lent (check_rows s lent f)
 
-  module _ (h : Header) (e : h ≡ header_of s lent) where
-    pub own-refused : (h.refusal.number ≡ 0 → ⊥) → h.refusal ≡ check_of s lent f
-    own-refused n = S.own s lent h e ∙ sym (checked-after ∙ rw (S.refused s lent h e n))
+  pub own_refused : (r : Refusal) → Err r ≡ header_reply (header_of s lent) → Err r ≡ check_reply (check_of s lent f)
+  own_refused r e =
+      let t = S.refused s lent r e in
+      let c : check_of s lent f ≡ own_refusal s lent = checked-after ∙ rw t.0 in
+      rw (c, t.0) (ap Err t.1)
 
-    judged-of : h.refusal.number ≡ 0 → first_or (check_rows s lent f) (refusal 0) ≡ check_of s lent f
-    judged-of n = sym (checked-after ∙ rw (S.taken s lent h e n))
+  numbered : Numbered (check_rows s lent f)
+  unfolding check_rows
+  numbered = tt
+
+  judged-of : (h : Header) → Ok h ≡ header_reply (header_of s lent)
+      → judged (check_rows s lent f) ≡ check_reply (check_of s lent f)
+  judged-of h e =
+      let c : check_of s lent f ≡ first (check_rows s lent f) = checked-after ∙ rw (S.taken s lent h e) in
+      judged-first (check_rows s lent f) numbered ∙ ap check_reply (sym c)
 
 pub source-judged : (s : List ℕ) (lent : Lent) (numbers : List ℤ) (marks : List ℕ) (d dv : ℤ) → dv ≡ d → (h : Header)
-    → h ≡ header_of s lent → h.refusal.number ≡ 0
-    → (r : Refusal) → r ≡ first_or (check_rows s lent (record { numbers = numbers; marks = marks; d = dv })) (refusal 0)
-    → r ≡ check_of s lent (record { numbers = numbers; marks = marks; d = d })
-source-judged s lent numbers marks d dv ed h e n r q =
-    q ∙ judged-of s lent _ h e n ∙ ap (λ (x : ℤ). check_of s lent (record { numbers = numbers; marks = marks; d = x })) ed
+    → Ok h ≡ header_reply (header_of s lent)
+    → (x : Result (Unit {0}) Refusal) → x ≡ judged (check_rows s lent (record { numbers = numbers; marks = marks; d = dv }))
+    → x ≡ check_reply (check_of s lent (record { numbers = numbers; marks = marks; d = d }))
+source-judged s lent numbers marks d dv ed h e x q =
+    q ∙ judged-of s lent _ h e
+    ∙ ap (λ (k : ℤ). check_reply (check_of s lent (record { numbers = numbers; marks = marks; d = k }))) ed
 
 -- then 18, 15, 16 and 17
-answers : (a15 b15 a16 b16 a17 b17 : Bool) → a15 ≡ b15 → a16 ≡ b16 → (b15 ≡ false → b16 ≡ false → a17 ≡ b17)
-    → cond a15 (refusal 15) (cond a16 (refusal 16) (cond a17 (refusal 17) (refusal 0)))
-    ≡ cond b15 (refusal 15) (cond b16 (refusal 16) (cond b17 (refusal 17) (refusal 0)))
-answers a15 b15 a16 b16 a17 b17 e15 e16 e17 = rw (e15, e16) (go b15 b16 e17)
-  where
-    go : (x y : Bool) → (x ≡ false → y ≡ false → a17 ≡ b17)
-        → cond x (refusal 15) (cond y (refusal 16) (cond a17 (refusal 17) (refusal 0)))
-        ≡ cond x (refusal 15) (cond y (refusal 16) (cond b17 (refusal 17) (refusal 0)))
-    go true y f = refl
-    go false true f = refl
-    go false false f = ap (λ (t : Bool). cond t (refusal 17) (refusal 0)) (f refl refl)
-
-module _ (s : List ℕ) (lent : Lent) (numbers : List ℤ) (marks : List ℕ) (d : ℤ) (bad : Bool)
-    (t : bad ≡ any_of (source_faults (record { numbers = numbers; marks = marks; d = d }))) where
+module _ (s : List ℕ) (lent : Lent) (numbers : List ℤ) (marks : List ℕ) (d : ℤ) where
   abbrev source : Source
   source = record { numbers = numbers; marks = marks; d = d }
 
-  abbrev reply : Refusal
-  reply = first_or (check_rows s lent source) (refusal 0)
+  abbrev answer : Result (Unit {0}) Refusal
+  answer = judged (check_rows s lent source)
 
-  pub source-refused : bad ≡ true → (r : Refusal) → r ≡ refusal 18 → r ≡ reply
-  unfolding first_or check_rows
-  source-refused b r e = rw (sym t ∙ b) e
+  abbrev after_16 : List Row
+  after_16 = row 17 (point_out s lent source) ∷ []
 
-  -- d is read back as dv, R as rv, and they and E are the message's where 16 passes
-  module _ (b : bad ≡ false) where
-    pub source_good : WellFormed source
-    source_good = well_formed source (sym t ∙ b)
+  abbrev after_15 : List Row
+  after_15 = row 16 (any_of (scale_faults (the_scale_in s))) ∷ after_16
 
-    module _ (h : Header) (e : h ≡ header_of s lent) (z : h.refusal.number ≡ 0) (dv : ℤ) (ed : dv ≡ d) (rv : ℤ) (er : rv ≡ whole_from h.scale.r)
-        (st : ℕ) (es : any_of (scale_faults h.scale) ≡ false → st ≡ nat_abs h.scale.e.value) where
-      abbrev outs : ℕ → ℤ → ℕ → Bool
-      outs at r e = any_below (out s numbers marks at h.packing.bits r e) (length numbers)
+  module _ (b18 : any_of (source_faults source) ≡ false) where
+    pub refused_15 : (t : Bool) → t ≡ any_of (source_differs s lent source) → (r : Refusal)
+        → reply_is (Err r) (refusal 15) t → Err r ≡ answer
+    unfolding judged check_rows
+    refused_15 t e r h = rw b18 (row_stops (refusal 15) (any_of (source_differs s lent source)) after_15 r (rw (← e) h))
 
-      abbrev begun : ℕ
-      begun = (h.places.bds.start + bds_head) * 8
+    module _ (b15 : any_of (source_differs s lent source) ≡ false) where
+      pub refused_16 : (t : Bool) → t ≡ any_of (scale_faults (the_scale_in s)) → (r : Refusal)
+          → reply_is (Err r) (refusal 16) t → Err r ≡ answer
+      unfolding judged check_rows
+      refused_16 t e r h = rw (b18, b15) (row_stops (refusal 16) (any_of (scale_faults (the_scale_in s))) after_16 r (rw (← e) h))
 
-      pub first_of : (u : Bool)
-          → u ≡ any_below
-          (λ i. not
-          (eqb (present_by h.bitmap
-          (bitmap_octets s lent.octets (in_force h.bitmap h.places.bms (length numbers))) i)
-          (mark_of marks i))) (length numbers)
-          → (td : Bool) → td ≡ the_decimal_differs (to_z w32 (of_z w32 h.d.value)) dv
-          → (at : ℕ) → at ≡ the_data_place h.places.bds.start → (x : Bool) → x ≡ outs at rv st
-          → (b16 : Bool) → b16 ≡ any_of (scale_faults h.scale)
-          → (r0 r15 r16 r17 : Refusal) → r0 ≡ refusal 0 → r17 ≡ cond x (refusal 17) r0 → r16 ≡ cond b16 (refusal 16) r17
-          → r15 ≡ cond (not (eqb (length numbers) h.points) || u || td) (refusal 15) r16 → r15 ≡ reply
-      unfolding first_or check_rows
-      first_of u eu td et at ea x ex b16 e16 r0 r15 r16 r17 p0 p17 p16 p15 =
-          let g = S.scale_of s lent h e z in
-          rw (sym t ∙ b)
-          (p15 ∙ ap (cond (not (eqb (length numbers) h.points) || u || td) (refusal 15))
-          (p16 ∙ ap (cond b16 (refusal 16)) (p17 ∙ ap (cond x (refusal 17)) p0))
-          ∙ answers _ _ _ _ _ _ (differ-is s lent h e z numbers marks d dv ed u td et eu)
-          (e16 ∙ ap (λ (y : Scale). any_of (scale_faults y)) g)
-          (λ f15 f16. out-is s lent h e z numbers marks d (sym t ∙ b) f15 x
-          (ex ∙ ap (λ (p : ℕ). outs p rv st) (data_begun s lent h e z at ea)
-          ∙ scaled (ap (λ (y : Scale). any_of (scale_faults y)) g ∙ f16))))
-        where
-          scaled : any_of (scale_faults h.scale) ≡ false
-              → outs begun rv st ≡ outs begun (whole_of h.scale.r) (nat_abs h.scale.e.value)
-          scaled f = ap₂ (outs begun) (er ∙ whole_is h.scale f) (es f)
+      pub answer_17 : any_of (scale_faults (the_scale_in s)) ≡ false → (t : Bool) → t ≡ point_out s lent source
+          → (x : Result (Unit {0}) Refusal) → reply_is x (refusal 17) t → x ≡ answer
+      unfolding judged check_rows
+      answer_17 b16 t e x h = h ∙ rw (b18, b15, b16, e)
+
+      -- d is read back as dv, R as rv, and they and E are the message's where 16 passes
+      module _ (h : Header) (e : Ok h ≡ header_reply (header_of s lent)) (b16 : any_of (scale_faults h.scale) ≡ false)
+          (rv : ℤ) (er : rv ≡ whole_from h.scale.r) (st : ℕ) (es : any_of (scale_faults h.scale) ≡ false → st ≡ nat_abs h.scale.e.value) where
+        abbrev outs : ℕ → ℤ → ℕ → Bool
+        outs at r e = any_below (out s numbers marks at h.packing.bits r e) (length numbers)
+
+        abbrev begun : ℕ
+        begun = (h.places.bds.start + bds_head) * 8
+
+        pub out_of : (at : ℕ) → at ≡ the_data_place h.places.bds.start → (x : Bool) → x ≡ outs at rv st
+            → x ≡ point_out s lent source
+        out_of at ea x ex =
+            out-is s lent h e numbers marks d b18 b15 x
+            (ex ∙ ap (λ (p : ℕ). outs p rv st) (data_begun s lent h e at ea)
+            ∙ ap₂ (outs begun) (er ∙ whole_is h.scale b16) (es b16))

@@ -3,6 +3,7 @@
 #![tactic(auto)]
 
 ghost use Rattle.std.specs.Prelude.{◌≡◌};
+ghost use Rattle.rules.specs.Answers.{check_reply};
 ghost use Rattle.rules.specs.Checking.{check_of, source_as};
 ghost use Rattle.rules.specs.Bitmap.{lent_as};
 
@@ -14,16 +15,21 @@ use judging::judge;
 use message::header;
 use rules::Refusal;
 
-// The reply to a message (with the stored bitmap of a number lent) and a source field: 0 says yes.
-pub fn check(s: &[u8], number: u16, store: &[u8], numbers: &[i32], marks: &[u8], d: i32) -> Refusal
+// The reply to a message (with the stored bitmap of a number lent) and a source field: Ok says yes.
+#[tactic(auto, using(crate::proofs::Stages::own_refused))]
+pub fn check(
+    s: &[u8],
+    number: u16,
+    store: &[u8],
+    numbers: &[i32],
+    marks: &[u8],
+    d: i32,
+) -> Result<(), Refusal>
     ensures { result ≡
-        check_of s.now (lent_as number store.now)
-        (source_as numbers.now marks.now d) }
+        check_reply
+        (check_of s.now (lent_as number store.now)
+        (source_as numbers.now marks.now d)) }
 {
-    let h = header(s, number, store);
-    let own = h.refusal;
-    if own.number != 0 {
-        return own;
-    }
+    let h = header(s, number, store)?;
     judge(s, number, store, h, numbers, marks, d)
 }

@@ -13,7 +13,7 @@ ghost use Rattle.checker.specs.Points.{out as is_out, the_block_far};
 
 use crate::steps::far;
 use bitreader::take_all;
-use gathering::gather_numbers;
+use gathering::gather;
 use marks::{all_present, unlike};
 use rules::bounds::BMS_HEAD;
 use rules::{Bitmap, Part};
@@ -44,16 +44,6 @@ pub(crate) fn marks_differ(
 // How many points are compared at once, at most.
 const BLOCK: usize = 256;
 
-// How many are, of those left.
-fn next_few(left: usize) -> usize
-    ensures { (result ≤ left) × ((result ≤ 256) × (0 < left → 0 < result)) }
-{
-    if left < BLOCK {
-        return left;
-    }
-    BLOCK
-}
-
 // Whether one of so many points is out, and the bit place reached in the data after their X.
 #[derive(Clone, Copy)]
 struct Turn {
@@ -68,10 +58,8 @@ fn few_far(numbers: &[i32], held: &[u32], c: usize, r: i32, e: u32) -> bool
         any_below (λ j. far_from (get_or numbers.now j (pos 0)) r (get_or held.now j 0) e) c }
 {
     let mut out = false;
-    let mut j: usize = 0;
-    while j < c {
+    for j in 0..c {
         out = out | far(numbers[j], r, held[j], e);
-        j += 1;
     }
     out
 }
@@ -95,10 +83,10 @@ fn far_at(
         (λ j. far_from (get_or numbers.now j (pos 0)) r (run (bits_in 8 s.now) (at + j * n) n) e)
         c }
 {
-    let taken = take_all(s, at, n, held, c as u32);
+    let end = take_all(s, at, n, held, c as u32).unwrap();
     Turn {
         out: few_far(numbers, held, c, r, e),
-        at: taken.at,
+        at: end,
     }
 }
 
@@ -112,16 +100,15 @@ fn block_far(
     numbers: &[i32],
     marks: &[u8],
     i: usize,
-    chosen: &mut [i32],
-    held: &mut [u32],
+    chosen: &mut [i32; BLOCK],
+    held: &mut [u32; BLOCK],
     r: i32,
     e: u32,
 ) -> Turn
     requires e_le_step_most { (e ≤ step_most) × (n ≤ the_bits_most) }
     requires j_value { all ≡ true → (j : ℕ) → j < length numbers.now → mark_of marks.now (i + j) ≡ 1 }
     requires numbers_in_bounds { i + length numbers.now ≤ length marks.now }
-    requires numbers_in_bounds_2 { (length numbers.now ≤ length chosen.old)
-        × ((length numbers.now ≤ length held.old) × (length numbers.now < 2 ^ 32)) }
+    requires numbers_few { length numbers.now ≤ 256 }
     ensures at_value { result.at ≡
         reached at (count (here_from marks.now i) 0 (length numbers.now) * n) }
     ensures out_value { result.out ≡
@@ -131,7 +118,7 @@ fn block_far(
     if all {
         return far_at(s, at, n, numbers, numbers.len(), held, r, e);
     }
-    let m = gather_numbers(numbers, marks, i, chosen);
+    let m = gather(numbers, marks, i, chosen);
     far_at(s, at, n, chosen, m, held, r, e)
 }
 
@@ -157,17 +144,15 @@ pub(crate) fn any_far(
     let mut held = [0u32; BLOCK];
     let mut out = false;
     let mut at = from;
-    let mut i: usize = 0;
-    while i < numbers.len() {
-        let c = next_few(numbers.len() - i);
+    for (b, block) in numbers.chunks(BLOCK).enumerate() {
         let turn = block_far(
             s,
             at,
             n,
             all,
-            &numbers[i..i + c],
+            block,
             marks,
-            i,
+            b * BLOCK,
             &mut chosen,
             &mut held,
             r,
@@ -175,7 +160,6 @@ pub(crate) fn any_far(
         );
         out = out | turn.out;
         at = turn.at;
-        i += c;
     }
     out
 }

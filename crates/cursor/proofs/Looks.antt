@@ -1,12 +1,12 @@
 -- What is said of a point, by the tests of code: 25, its value, or absence.
+use Rattle.std.specs.Prelude.{Err, None, Ok, Option, Result, Some}
 use mathlib.Core.Path.{◌≡◌, sym, ap, ap₂, ◌∙◌}
 use mathlib.Core.Bool.{Bool, true, false, cond}
 use mathlib.Core.List.{List}
 use Prim.Native.Nat.{ℕ, ◌+◌, ◌<◌}
 use borrow.Author.Tests.{eq-eqb, ne_eqb}
 use lib.Dec.{eqb}
-use Rattle.rules.specs.declared.{Refusal.Refusal, UnderCursor.UnderCursor, UnderCursor.TheVariants.Refused}
-use Rattle.rules.specs.declared.{UnderCursor.TheVariants.Absent, UnderCursor.TheVariants.Value}
+use Rattle.rules.specs.declared.{Refusal.Refusal}
 use Rattle.rules.specs.Table.{refusal, any_of}
 use Rattle.rules.specs.Cursor.{group_of, ones_in, ones_up_to, entry_of, index_faults, cursor_number}
 use Rattle.runs.specs.Take.{fetched}
@@ -16,22 +16,22 @@ use Rattle.cursor.proofs.Groups.{in_ext, to_ext}
 
 module _ (s index : List ℕ) (b bits n m i : ℕ) where
   -- by the ones in the group, those before the point, and its own bit
-  abbrev said : ℕ → ℕ → ℕ → UnderCursor
+  abbrev said : ℕ → ℕ → ℕ → Result (Option ℕ) Refusal
   said all before here =
-      cond (any_of (index_faults index n m (group_of i) all)) (Refused (refusal 25))
-      (cond (eqb here 1) (Value (fetched s (the_value_place b bits (entry_of index (group_of i) + before)) bits)) Absent)
+      cond (any_of (index_faults index n m (group_of i) all)) (Err (refusal 25))
+      (cond (eqb here 1) (Ok (Some (fetched s (the_value_place b bits (entry_of index (group_of i) + before)) bits))) (Ok None))
 
   module _ (f : ℕ → ℕ) (all : ℕ) (ea : all ≡ ones_in f n (group_of i)) (t : Bool)
       (et : t ≡ any_of (index_faults index n m (group_of i) all)) where
     judged : (v : Bool) → t ≡ v → any_of (index_faults index n m (group_of i) (ones_in f n (group_of i))) ≡ v
     judged v h = ap (λ (x : ℕ). any_of (index_faults index n m (group_of i) x)) (sym ea) ∙ sym et ∙ h
 
-    pub looked-bad : t ≡ true → (r : Refusal) → r ≡ refusal 25 → Refused r ≡ looked_at s f b bits n m index i
+    pub looked-bad : t ≡ true → (r : Refusal) → r ≡ refusal 25 → Err r ≡ looked_at s f b bits n m index i
     unfolding looked_at
-    looked-bad h r e = rw (judged true h) (ap Refused e)
+    looked-bad h r e = rw (judged true h) (ap Err e)
 
     module _ (h : t ≡ false) (here : ℕ) (eh : here ≡ f i) where
-      pub looked-absent : (here ≡ 1 → ⊥) → Absent ≡ looked_at s f b bits n m index i
+      pub looked-absent : (here ≡ 1 → ⊥) → (Ok None) ≡ looked_at s f b bits n m index i
       unfolding looked_at
       looked-absent z =
           let k : eqb (f i) 1 ≡ false = ap (λ (x : ℕ). eqb x 1) (sym eh) ∙ ne_eqb here 1 z in
@@ -39,12 +39,12 @@ module _ (s index : List ℕ) (b bits n m i : ℕ) where
 
       pub looked-value : here ≡ 1 → (e before at x : ℕ) → e ≡ entry_of index (group_of i) → before ≡ ones_up_to f i
           → at ≡ the_value_place b bits (e + before) → x ≡ fetched s at bits
-          → Value x ≡ looked_at s f b bits n m index i
+          → (Ok (Some x)) ≡ looked_at s f b bits n m index i
       unfolding looked_at cursor_number
       looked-value z e before at x pe pb pa px =
           let k : eqb (f i) 1 ≡ true = ap (λ (y : ℕ). eqb y 1) (sym eh) ∙ eq-eqb here 1 z in
           rw (judged false h, k)
-          (ap Value
+          (ap (λ (x : ℕ). Ok (Some x))
           (px ∙ ap (λ (y : ℕ). fetched s y bits)
           (pa ∙ ap₂ (λ (y w : ℕ). the_value_place b bits (y + w)) pe pb)))
 

@@ -7,6 +7,7 @@ ghost use Rattle.std.specs.Prelude.{◌≡◌, cond, ◌++◌, ◌*◌, ◌^◌,
 ghost use Rattle.bits.specs.Bits.{bits_in, count};
 ghost use Rattle.bits.specs.Tables.{tab};
 ghost use Rattle.rules.specs.Table.{any_of};
+ghost use Rattle.rules.specs.Answers.{entries_reply};
 ghost use Rattle.rules.specs.Bitmap.{lent_as};
 ghost use Rattle.rules.specs.Cursor.{the_groups_for, the_group_size, group_of, ones_before, ones_in, ones_up_to};
 ghost use Rattle.rules.specs.Cursor.{entry_of};
@@ -17,9 +18,9 @@ ghost use Rattle.cursor.specs.Looked.{looked_at};
 use bitreader::{take, value_place};
 use chart::{point_at, shape_of};
 use message::header;
-use reply::refusal;
+use reply::{refusal, refuse};
 use rules::bounds::BMS_HEAD;
-use rules::{Bitmap, Indexed, Pointed, Refusal, Spot, UnderCursor};
+use rules::{Bitmap, GridPoint, Refusal, Spot};
 use runs::{bit, ones, ones_256, ones_few};
 
 // What a group's bits say of one of its points: the ones among all, the ones before the point, and its own bit.
@@ -134,7 +135,7 @@ fn look(
     m: u32,
     index: &[u32],
     i: u32,
-) -> UnderCursor
+) -> Result<Option<u32>, Refusal>
     requires { (i < n) × (p < 2 ^ 62) }
     ensures { result ≡
         looked_at s.now (held bitmap s.now store.now p) start bits n m
@@ -143,30 +144,32 @@ fn look(
     let group = group_by(bitmap, s, store, p, n, i);
     let g = i / 256;
     if index_bad(index, n, m, g, group.all) {
-        return UnderCursor::Refused(refusal(25));
+        return Err(refusal(25));
     }
     if group.here == 1 {
         let k = entry(index, g as usize) + group.before;
         let at = value_place(start, bits, k);
-        return UnderCursor::Value(take(s, at, bits).value);
+        return Ok(Some(take(s, at, bits).value));
     }
-    UnderCursor::Absent
+    Ok(None)
 }
 
 // What a place of a message's chart has, by an index.
-pub fn under(s: &[u8], number: u16, store: &[u8], index: &[u32], c: Spot) -> UnderCursor
+pub fn under(
+    s: &[u8],
+    number: u16,
+    store: &[u8],
+    index: &[u32],
+    c: Spot,
+) -> Result<Option<u32>, Refusal>
     ensures { result ≡ cursor_of s.now (lent_as number store.now) index.now c }
 {
-    let h = header(s, number, store);
-    let r = h.refusal;
-    if r.number != 0 {
-        return UnderCursor::Refused(r);
-    }
+    let h = header(s, number, store)?;
     let bitmap = h.bitmap;
     let at = point_at(shape_of(h.grid), c);
     match at {
-        Pointed::Off => UnderCursor::Refused(refusal(24)),
-        Pointed::At(k) => look(
+        None => Err(refusal(24)),
+        Some(k) => look(
             s,
             store,
             bitmap,
@@ -186,12 +189,8 @@ fn fill_even(index: &mut [u32], groups: usize)
     requires { (groups ≤ length index.old) × (groups < 2 ^ 24) }
     ensures { index.new ≡ tab (λ g. g * 256) groups ++ drop groups index.old }
 {
-    let mut before: u32 = 0;
-    let mut g: usize = 0;
-    while g < groups {
-        index[g] = before;
-        before += 256;
-        g += 1;
+    for g in 0..groups {
+        index[g] = g as u32 * 256;
     }
 }
 
@@ -202,13 +201,9 @@ fn fill_counted(s: &[u8], p: usize, index: &mut [u32], groups: usize)
         tab (ones_before (bits_from s.now p)) groups ++ drop groups index.old }
 {
     let mut before: u32 = 0;
-    let mut at = p;
-    let mut g: usize = 0;
-    while g < groups {
+    for g in 0..groups {
         index[g] = before;
-        before += ones_256(s, at);
-        at += 32;
-        g += 1;
+        before += ones_256(s, p + g * 32);
     }
 }
 
@@ -226,30 +221,16 @@ fn fill_by(bitmap: Bitmap, s: &[u8], store: &[u8], p: usize, index: &mut [u32], 
     }
 }
 
-// A refused filling.
-fn unfilled(refusal: Refusal) -> Indexed
-    ensures { result ≡ record { refusal = refusal; entries = 0 } }
-{
-    Indexed {
-        refusal,
-        entries: 0,
-    }
-}
-
-// Fills the front of a lent index for a message.
-pub fn fill(s: &[u8], number: u16, store: &[u8], index: &mut [u32]) -> Indexed
-    ensures value { result ≡ index_of s.now (lent_as number store.now) index.old }
+// Fills the front of a lent index for a message: how many entries it took.
+pub fn fill(s: &[u8], number: u16, store: &[u8], index: &mut [u32]) -> Result<u32, Refusal>
+    ensures value { result ≡
+        entries_reply (index_of s.now (lent_as number store.now) index.old) }
     ensures index_after { index.new ≡
         the_index_after s.now (lent_as number store.now) index.old }
 {
-    let h = header(s, number, store);
-    if h.refusal.number != 0 {
-        return unfilled(h.refusal);
-    }
+    let h = header(s, number, store)?;
     let groups = groups_for(h.points);
-    if index.len() < groups {
-        return unfilled(refusal(14));
-    }
+    refuse(14, index.len() < groups)?;
     let bitmap = h.bitmap;
     fill_by(
         bitmap,
@@ -259,8 +240,5 @@ pub fn fill(s: &[u8], number: u16, store: &[u8], index: &mut [u32]) -> Indexed
         index,
         groups,
     );
-    Indexed {
-        refusal: refusal(0),
-        entries: groups as u32,
-    }
+    Ok(groups as u32)
 }

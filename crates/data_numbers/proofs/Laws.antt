@@ -8,7 +8,10 @@ use native.Mathlib.Omega.{arith}
 use borrow.Author.Tests.{lt-ltb, le-ltb, ltb-true, ltb-false, eq-eqb, ne_eqb}
 use lib.Dec.{ltb, eqb}
 use lib.ListN.{take, drop}
-use Rattle.rules.specs.declared.{Header.Header, Bitmap.TheVariants.Without, Bitmap.TheVariants.Carried}
+use Rattle.rules.specs.declared.{Bitmap.TheVariants.Without, Bitmap.TheVariants.Carried}
+use Rattle.rules.specs.declared.{Header.Header, Refusal.Refusal}
+use Rattle.rules.specs.Answers.{header_reply}
+use Rattle.std.specs.Prelude.{Ok, Err}
 use Rattle.rules.specs.declared.{Bitmap.TheVariants.Stored}
 use Rattle.bits.specs.Bits.{bits_in, count, octets_for}
 use Rattle.bits.proofs.Ones.{count_ext}
@@ -78,13 +81,15 @@ of_part s a n i =
     number_ext (bits_from s a) (bits_in 8 (take (octets_for n) (drop a s))) n i
     (λ (j : ℕ) (l : j < n). bit-part s a n j l ∙ ap (bits_in 8 (take (octets_for n) (drop a s))) (omega arith))
 
--- a message's points
-module _ (s : List ℕ) (lent : Lent) (h : Header) (e : h ≡ header_of s lent) (i : ℕ) where
-  pub refused : (h.refusal.number ≡ 0 → ⊥) → outside ≡ numbering_of s lent i
-  unfolding numbering_of
-  refused z = rw (S.refused s lent h e z)
+-- a refused message has no points
+pub refused : (s : List ℕ) (lent : Lent) (r : Refusal) → Err r ≡ header_reply (header_of s lent) → (i : ℕ)
+    → outside ≡ numbering_of s lent i
+unfolding numbering_of
+refused s lent r e i = rw (S.refused s lent r e).0
 
-  module _ (z : h.refusal.number ≡ 0) (r : Numbering) where
+-- a message's points
+module _ (s : List ℕ) (lent : Lent) (h : Header) (e : Ok h ≡ header_reply (header_of s lent)) (i : ℕ) where
+  module _ (r : Numbering) where
     taken : r
         ≡ the_data_number
         (present_by h.bitmap (bitmap_octets s lent.octets (in_force h.bitmap h.places.bms h.points)))
@@ -92,7 +97,7 @@ module _ (s : List ℕ) (lent : Lent) (h : Header) (e : h ≡ header_of s lent) 
         → r ≡ numbering_of s lent i
     unfolding numbering_of present_in in_force_in
     taken q =
-        q ∙ rw (S.taken s lent h e z, S.places-of s lent h e z, S.bitmap-of s lent h e z, S.points-of s lent h e z)
+        q ∙ rw (S.taken s lent h e, S.places-of s lent h e, S.bitmap-of s lent h e, S.points-of s lent h e)
 
     pub none : h.bitmap ≡ Without → r ≡ the_data_number always h.points i → r ≡ numbering_of s lent i
     none b q = taken (rw b (by-none _ h.points i r q))

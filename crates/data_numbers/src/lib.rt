@@ -73,14 +73,15 @@ pub fn data_of(bitmap: Bitmap, bits: &[u8], n: u32, k: GridPoint) -> Numbered
 pub fn data_number(s: &[u8], number: u16, store: &[u8], k: GridPoint) -> Numbered
     ensures { told result ≡ numbering_of s.now (lent_as number store.now) k.0 }
 {
-    let h = header(s, number, store);
-    if h.refusal.number != 0 {
-        return Numbered::Outside;
-    }
-    let bitmap = h.bitmap;
-    match bitmap {
-        Bitmap::Without => itself(h.points, k.0),
-        Bitmap::Carried => counted(s, h.places.bms.start as usize + 6, h.points, k.0),
-        Bitmap::Stored(_) => counted(store, 0, h.points, k.0),
+    match header(s, number, store) {
+        Err(_) => Numbered::Outside,
+        Ok(h) => {
+            let bitmap = h.bitmap;
+            match bitmap {
+                Bitmap::Without => itself(h.points, k.0),
+                Bitmap::Carried => counted(s, h.places.bms.start as usize + 6, h.points, k.0),
+                Bitmap::Stored(_) => counted(store, 0, h.points, k.0),
+            }
+        }
     }
 }

@@ -3,16 +3,14 @@
 #![tactic(auto)]
 
 ghost use Rattle.std.specs.Prelude.{◌≡◌, ◌<◌, ◌≤ℤ◌, ◌||◌};
-ghost use Rattle.std.specs.Float.{binary64};
-ghost use Rattle.std.specs.Float.Ieee.{of_bits};
 ghost use Rattle.std.specs.Int.Signed.{lt_z};
 ghost use Rattle.rules.specs.Bounds.{shown_least, shown_most};
-ghost use Rattle.rules.specs.Table.{refusal as the_refusal};
+ghost use Rattle.rules.specs.Answers.{display_reply};
 ghost use Rattle.rules.specs.Display.{the_ref_bits, the_step_bits, shown_reference, shown_step, display_of};
 ghost use Rattle.rules.specs.Bitmap.{lent_as};
 
 use message::header;
-use reply::refusal;
+use reply::refuse;
 use rules::bounds::{SHOWN_LEAST, SHOWN_MOST};
 use rules::{Display, Refusal, Scale, Signed};
 
@@ -45,22 +43,10 @@ fn beyond(e: Signed) -> bool
     (e.value < SHOWN_LEAST) | (SHOWN_MOST < e.value)
 }
 
-// A refused answer: both doubles have all bits zero.
-fn refused(refusal: Refusal) -> Display
-    ensures { result ≡ record { refusal = refusal; reference = of_bits binary64 0; step = of_bits binary64 0 } }
-{
-    Display {
-        refusal,
-        reference: 0.0,
-        step: 0.0,
-    }
-}
-
 // The two doubles of R's four octets and of E.
 fn shown(c: Scale) -> Display
     requires { (shown_least ≤ℤ c.e.value) × (c.e.value ≤ℤ shown_most) }
-    ensures { result ≡
-        record { refusal = the_refusal 0; reference = shown_reference c.r; step = shown_step c.e.value } }
+    ensures { result ≡ record { reference = shown_reference c.r; step = shown_step c.e.value } }
 {
     let r = c.r;
     let reference = ref_bits(
@@ -70,22 +56,16 @@ fn shown(c: Scale) -> Display
     );
     let step = step_bits(c.e);
     Display {
-        refusal: refusal(0),
         reference: f64::from_bits(reference),
         step: f64::from_bits(step),
     }
 }
 
 // What a message shows.
-pub fn display(s: &[u8], number: u16, store: &[u8]) -> Display
-    ensures { result ≡ display_of s.now (lent_as number store.now) }
+pub fn display(s: &[u8], number: u16, store: &[u8]) -> Result<Display, Refusal>
+    ensures { result ≡ display_reply (display_of s.now (lent_as number store.now)) }
 {
-    let h = header(s, number, store);
-    if h.refusal.number != 0 {
-        return refused(h.refusal);
-    }
-    if beyond(h.scale.e) {
-        return refused(refusal(16));
-    }
-    shown(h.scale)
+    let h = header(s, number, store)?;
+    refuse(16, beyond(h.scale.e))?;
+    Ok(shown(h.scale))
 }

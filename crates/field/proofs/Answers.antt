@@ -8,7 +8,11 @@ use native.Mathlib.Omega.{arith}
 use borrow.Author.Tests.{ltb-false}
 use lib.Dec.{T, ltb}
 use lib.ListN.{length, drop}
+use Rattle.std.specs.Prelude.{Result, Ok, Err}
 use Rattle.rules.specs.declared.{Refusal.Refusal, Places.Places, Header.Header}
+use Rattle.rules.specs.Answers.{said_by, header_reply}
+use Rattle.reply.proofs.Judged.{reply_is, stopped-as}
+use Rattle.message.proofs.Laws.{by-refusal}
 use Rattle.bits.specs.Bits.{bits_in, count, runs}
 use Rattle.bits.specs.Tables.{tab}
 use Rattle.bits.proofs.Fill.{length-tab}
@@ -35,8 +39,8 @@ use Rattle.message.proofs.Said as S
 
 module _ (s : List ℕ) (lent : Lent) (v w : List ℕ) where
   -- what was answered, and the two lists afterwards
-  abbrev pub Answered : Header → List ℕ → List ℕ → Type 0
-  Answered h x y = (h ≡ read_of s lent v w) × ((x ≡ the_values_after s lent v w) × (y ≡ the_marks_after s lent v w))
+  abbrev pub Answered : Result Header Refusal → List ℕ → List ℕ → Type 0
+  Answered a x y = (a ≡ header_reply (read_of s lent v w)) × ((x ≡ the_values_after s lent v w) × (y ≡ the_marks_after s lent v w))
 
   abbrev short : Bool
   short = ltb (length v) (points_in s) || ltb (length w) (marks_long (points_in s))
@@ -50,10 +54,10 @@ module _ (s : List ℕ) (lent : Lent) (v w : List ℕ) where
       ∙ ap (λ (x : Bool). cond (accepted (own_refusal s lent)) (cond x (refusal 14) (refusal 0)) (own_refusal s lent))
       (sym e)
 
-  unchanged : (r : Refusal) → read_refusal s lent v w ≡ r → accepted r ≡ false → Answered (refused_by r) v w
-  unfolding read_of answer_by the_values_after the_marks_after filled
+  unchanged : (r : Refusal) → read_refusal s lent v w ≡ r → accepted r ≡ false → Answered (Err r) v w
+  unfolding read_of the_values_after the_marks_after filled
   unchanged r e n = (
-    sym (ap (λ (x : Refusal). answer_by x s lent) e ∙ rw n),
+    sym (ap (λ (x : Refusal). header_reply (answer_by x s lent)) e ∙ by-refusal s lent r (λ q. absurd (cc (sym q ∙ n))) ∙ rw n),
     (
       sym (ap (λ (x : Refusal). filled x (values_in s lent) v) e ∙ rw n),
       sym
@@ -61,116 +65,115 @@ module _ (s : List ℕ) (lent : Lent) (v w : List ℕ) where
     ),
   )
 
-  module _ (h : Header) (e : h ≡ header_of s lent) where
-    pub refused : (h.refusal.number ≡ 0 → ⊥) → Answered h v w
-    unfolding header_of answer_by
-    refused z =
-        let n = S.refused s lent h e z in
-        let r : read_refusal s lent v w ≡ own_refusal s lent = refusal-by short refl ∙ rw n in
-        let q = unchanged (own_refusal s lent) r n in
-        (e ∙ rw n q.0, q.1)
+  pub refused : (r : Refusal) → Err r ≡ header_reply (header_of s lent) → Answered (Err r) v w
+  refused r e =
+      let f = S.refused s lent r e in
+      let own : read_refusal s lent v w ≡ own_refusal s lent = refusal-by short refl ∙ rw f.0 in
+      let q = unchanged (own_refusal s lent) own f.0 in
+      (ap Err f.1 ∙ q.0, q.1)
 
-    module _ (z : h.refusal.number ≡ 0) where
-      took : T (accepted (own_refusal s lent))
-      took = subst T (sym (S.taken s lent h e z)) tt
+  module _ (h : Header) (e : Ok h ≡ header_reply (header_of s lent)) where
+    took : T (accepted (own_refusal s lent))
+    took = subst T (sym (S.taken s lent h e)) tt
 
-      points : h.points ≡ points_in s
-      points = S.points-of s lent h e z
+    points : h.points ≡ points_in s
+    points = S.points-of s lent h e
 
-      -- the test, with the length of n marks as it was asked for
-      abbrev tested : ℕ → Bool
-      tested k = ltb (length v) h.points || ltb (length w) k
+    -- the test, with the length of n marks as it was asked for
+    abbrev tested : ℕ → Bool
+    tested k = ltb (length v) h.points || ltb (length w) k
 
-      tested-is : (k : ℕ) → k ≡ marks_long h.points → tested k ≡ short
-      tested-is k l = ap tested l ∙ ap (λ (x : ℕ). ltb (length v) x || ltb (length w) (marks_long x)) points
+    tested-is : (k : ℕ) → k ≡ marks_long h.points → tested k ≡ short
+    tested-is k l = ap tested l ∙ ap (λ (x : ℕ). ltb (length v) x || ltb (length w) (marks_long x)) points
 
-      refusal_is : (k : ℕ) → k ≡ marks_long h.points → (t : Bool) → tested k ≡ t
-          → read_refusal s lent v w ≡ cond t (refusal 14) (refusal 0)
-      refusal_is k l t q = refusal-by t (sym q ∙ tested-is k l) ∙ rw (S.taken s lent h e z)
+    refusal_is : (k : ℕ) → k ≡ marks_long h.points → (t : Bool) → tested k ≡ t
+        → read_refusal s lent v w ≡ cond t (refusal 14) (refusal 0)
+    refusal_is k l t q = refusal-by t (sym q ∙ tested-is k l) ∙ rw (S.taken s lent h e)
 
-      pub too_short : (k : ℕ) → k ≡ marks_long h.points → tested k ≡ true → (f : Refusal) → f ≡ refusal 14
-          → (r : Header) → r ≡ refused_by f → Answered r v w
-      too_short k l q f g r d = let a = unchanged (refusal 14) (refusal_is k l true q) refl in (d ∙ ap refused_by g ∙ a.0, a.1)
+    pub too_short : (k : ℕ) → k ≡ marks_long h.points → (r : Refusal) → reply_is (Err r) (refusal 14) (tested k)
+        → Answered (Err r) v w
+    too_short k l r q =
+        let f = stopped-as (tested k) (refusal 14) r q in
+        let a = unchanged (refusal 14) (refusal_is k l true f.0) refl in
+        (ap Err f.1 ∙ a.0, a.1)
 
-      -- what filling asks
-      pub narrow : h.packing.bits ≤ the_bits_most
-      narrow = S.narrow s lent h e z
+    -- what filling asks
+    pub narrow : h.packing.bits ≤ the_bits_most
+    narrow = S.narrow s lent h e
 
-      pub counted : h.present
-          ≡ count (present_by h.bitmap
-          (bitmap_octets s lent.octets (in_force h.bitmap h.places.bms h.points))) 0 h.points
-      unfolding present_count present_in in_force_in found_in found_by parsed_of
-      counted =
-          S.present-of s lent h e z
-          ∙ sym (ap {B = ℕ}
-          (λ (q : Header). count
-          (present_by q.bitmap (bitmap_octets s lent.octets (in_force q.bitmap q.places.bms q.points))) 0
-          q.points) (S.said s lent h e z))
+    pub counted : h.present
+        ≡ count (present_by h.bitmap
+        (bitmap_octets s lent.octets (in_force h.bitmap h.places.bms h.points))) 0 h.points
+    unfolding present_count present_in in_force_in found_in found_by parsed_of
+    counted =
+        S.present-of s lent h e
+        ∙ sym (ap {B = ℕ}
+        (λ (q : Header). count
+        (present_by q.bitmap (bitmap_octets s lent.octets (in_force q.bitmap q.places.bms q.points))) 0
+        q.points) (S.said s lent h e))
 
-      pub lies : after (in_force h.bitmap h.places.bms h.points).part ≤ length
-          (cond (in_force h.bitmap h.places.bms h.points).stored lent.octets s)
-      unfolding in_force_in found_in found_by parsed_of
-      lies =
-          subst (λ (q : Header). after (in_force q.bitmap q.places.bms q.points).part ≤ length
-          (cond (in_force q.bitmap q.places.bms q.points).stored lent.octets s))
-          (sym (S.said s lent h e z)) (bitmap-inside s lent took)
+    pub lies : after (in_force h.bitmap h.places.bms h.points).part ≤ length
+        (cond (in_force h.bitmap h.places.bms h.points).stored lent.octets s)
+    unfolding in_force_in found_in found_by parsed_of
+    lies =
+        subst (λ (q : Header). after (in_force q.bitmap q.places.bms q.points).part ≤ length
+        (cond (in_force q.bitmap q.places.bms q.points).stored lent.octets s))
+        (sym (S.said s lent h e)) (bitmap-inside s lent took)
 
-      pub room : (k : ℕ) → k ≡ marks_long h.points → tested k ≡ false
-          → (h.points ≤ length v) × (marks_long h.points ≤ length w)
-      room k l q =
-          let o = or_false (ltb (length v) h.points) (ltb (length w) k) q in
-          (ltb-false _ _ o.0, subst (λ (x : ℕ). x ≤ length w) l (ltb-false _ _ o.1))
+    pub room : (k : ℕ) → k ≡ marks_long h.points → tested k ≡ false
+        → (h.points ≤ length v) × (marks_long h.points ≤ length w)
+    room k l q =
+        let o = or_false (ltb (length v) h.points) (ltb (length w) k) q in
+        (ltb-false _ _ o.0, subst (λ (x : ℕ). x ≤ length w) l (ltb-false _ _ o.1))
 
-      -- the data's place is no large number
-      pub early : h.places.bds.start ≤ message_most
-      early =
-          subst (λ (x : Places). x.bds.start ≤ message_most) (sym (S.places-of s lent h e z))
-          (omega (arith, (sections s lent took).end, size-most s lent took))
+    -- the data's place is no large number
+    pub early : h.places.bds.start ≤ message_most
+    early =
+        subst (λ (x : Places). x.bds.start ≤ message_most) (sym (S.places-of s lent h e))
+        (omega (arith, (sections s lent took).end, size-most s lent took))
 
-      own : own_refusal s lent ≡ refusal 0
-      own = own-zero s lent (S.taken s lent h e z)
+    -- the lists by the header, and by the definitions
+    abbrev by : Header → ℕ → ℕ
+    by q = present_by q.bitmap (bitmap_octets s lent.octets (in_force q.bitmap q.places.bms q.points))
 
-      -- the lists by the header, and by the definitions
-      abbrev by : Header → ℕ → ℕ
-      by q = present_by q.bitmap (bitmap_octets s lent.octets (in_force q.bitmap q.places.bms q.points))
+    abbrev values_by : Header → List ℕ
+    values_by q = scattered (by q)
+        (runs (bits_in 8 s) ((q.places.bds.start + bds_head) * 8) q.packing.bits q.present) q.points
 
-      abbrev values_by : Header → List ℕ
-      values_by q = scattered (by q)
-          (runs (bits_in 8 s) ((q.places.bds.start + bds_head) * 8) q.packing.bits q.present) q.points
+    -- where the values begin
+    abbrev begun : ℕ → List ℕ
+    begun at = scattered (by h) (runs (bits_in 8 s) at h.packing.bits h.present) h.points
 
-      -- where the values begin
-      abbrev begun : ℕ → List ℕ
-      begun at = scattered (by h) (runs (bits_in 8 s) at h.packing.bits h.present) h.points
+    begins : the_data_place h.places.bds.start ≡ (h.places.bds.start + bds_head) * 8
+    begins = data_begins h.places.bds.start (omega (arith, early))
 
-      begins : the_data_place h.places.bds.start ≡ (h.places.bds.start + bds_head) * 8
-      begins = data_begins h.places.bds.start (omega (arith, early))
+    values_are : values_by h ++ drop h.points v ≡ values_in s lent ++ drop (length (values_in s lent)) v
+    unfolding values_in present_in in_force_in found_in found_by parsed_of scattered
+    values_are =
+        ap (λ (q : Header). values_by q ++ drop q.points v) (S.said s lent h e)
+        ∙ ap (λ (xs : List ℕ). scattered (present_in s lent) xs (points_in s) ++ drop (points_in s) v)
+        (sym (data_runs s lent))
+        ∙ ap (λ (k : ℕ). values_in s lent ++ drop k v) (sym (length-tab _ (points_in s)))
 
-      values_are : values_by h ++ drop h.points v ≡ values_in s lent ++ drop (length (values_in s lent)) v
-      unfolding values_in present_in in_force_in found_in found_by parsed_of scattered
-      values_are =
-          ap (λ (q : Header). values_by q ++ drop q.points v) (S.said s lent h e z)
-          ∙ ap (λ (xs : List ℕ). scattered (present_in s lent) xs (points_in s) ++ drop (points_in s) v)
-          (sym (data_runs s lent))
-          ∙ ap (λ (k : ℕ). values_in s lent ++ drop k v) (sym (length-tab _ (points_in s)))
+    marks_are : h.points ≤ length w
+        → marked_by (by h) h.points w ≡ marks_in s lent ++ drop (length (marks_in s lent)) w
+    unfolding marks_in present_in in_force_in found_in found_by parsed_of
+    marks_are l =
+        marked-fits (by h) h.points w l
+        ∙ ap (λ (q : Header). tab (by q) q.points ++ drop q.points w) (S.said s lent h e)
+        ∙ ap (λ (k : ℕ). marks_in s lent ++ drop k w) (sym (length-tab _ (points_in s)))
 
-      marks_are : h.points ≤ length w
-          → marked_by (by h) h.points w ≡ marks_in s lent ++ drop (length (marks_in s lent)) w
-      unfolding marks_in present_in in_force_in found_in found_by parsed_of
-      marks_are l =
-          marked-fits (by h) h.points w l
-          ∙ ap (λ (q : Header). tab (by q) q.points ++ drop q.points w) (S.said s lent h e z)
-          ∙ ap (λ (k : ℕ). marks_in s lent ++ drop k w) (sym (length-tab _ (points_in s)))
-
-      pub done : (k : ℕ) → k ≡ marks_long h.points → tested k ≡ false → (at : ℕ)
-          → at ≡ the_data_place h.places.bds.start
-          → (x y : List ℕ) → x ≡ begun at ++ drop h.points v → y ≡ marked_by (by h) h.points w → Answered h x y
-      unfolding header_of read_of the_values_after the_marks_after filled
-      done k l q at p x y a b =
-          let r = refusal_is k l false q in (
-            e ∙ ap (λ (k : Refusal). answer_by k s lent) (own ∙ sym r),
-            (
-              a ∙ ap (λ (o : ℕ). begun o ++ drop h.points v) (p ∙ begins) ∙ values_are
-                  ∙ sym (ap (λ (k : Refusal). filled k (values_in s lent) v) r),
-              b ∙ marks_are (room k l q).1 ∙ sym (ap (λ (k : Refusal). filled k (marks_in s lent) w) r),
-            ),
-          )
+    pub done : (k : ℕ) → k ≡ marks_long h.points → tested k ≡ false → (at : ℕ)
+        → at ≡ the_data_place h.places.bds.start
+        → (x y : List ℕ) → x ≡ begun at ++ drop h.points v → y ≡ marked_by (by h) h.points w → Answered (Ok h) x y
+    unfolding read_of the_values_after the_marks_after filled
+    done k l q at p x y a b =
+        let r = refusal_is k l false q in (
+          ap Ok (S.said s lent h e)
+              ∙ sym (ap (λ (k : Refusal). header_reply (answer_by k s lent)) r ∙ by-refusal s lent (refusal 0) (λ _. refl)),
+          (
+            a ∙ ap (λ (o : ℕ). begun o ++ drop h.points v) (p ∙ begins) ∙ values_are
+                ∙ sym (ap (λ (k : Refusal). filled k (values_in s lent) v) r),
+            b ∙ marks_are (room k l q).1 ∙ sym (ap (λ (k : Refusal). filled k (marks_in s lent) w) r),
+          ),
+        )

@@ -3,6 +3,7 @@
 #![tactic(auto)]
 
 ghost use Rattle.std.specs.Prelude.{◌≡◌};
+ghost use Rattle.rules.specs.Answers.{header_reply};
 ghost use Rattle.rules.specs.Reading.{read_of, the_values_after, the_marks_after};
 ghost use Rattle.rules.specs.Bitmap.{lent_as};
 
@@ -12,27 +13,29 @@ mod spread; // spread.rt: values to their points through a bitmap
 use crate::lists::fill_lists;
 use bitreader::data_place;
 use marks::long;
-use message::{header, refused};
-use reply::refusal;
-use rules::Header;
+use message::header;
+use reply::refuse;
+use rules::{Header, Refusal};
 
 // The header of a message, with its values and marks put at the front of the lent lists.
-pub fn read(s: &[u8], number: u16, store: &[u8], values: &mut [u32], marks: &mut [u8]) -> Header
+pub fn read(
+    s: &[u8],
+    number: u16,
+    store: &[u8],
+    values: &mut [u32],
+    marks: &mut [u8],
+) -> Result<Header, Refusal>
     ensures value { result ≡
-        read_of s.now (lent_as number store.now) values.old marks.old }
+        header_reply (read_of s.now (lent_as number store.now) values.old marks.old) }
     ensures values_after { values.new ≡
         the_values_after s.now (lent_as number store.now) values.old marks.old }
     ensures marks_after { marks.new ≡
         the_marks_after s.now (lent_as number store.now) values.old marks.old }
 {
-    let h = header(s, number, store);
-    if h.refusal.number != 0 {
-        return h;
-    }
+    let h = header(s, number, store)?;
     let n = h.points;
-    if (values.len() < n as usize) | (marks.len() < long(n)) {
-        return refused(refusal(14));
-    }
+    let short = (values.len() < n as usize) | (marks.len() < long(n));
+    refuse(14, short)?;
     let bitmap = h.bitmap;
     let bms = h.places.bms;
     let at = data_place(h.places.bds.start);
@@ -48,5 +51,5 @@ pub fn read(s: &[u8], number: u16, store: &[u8], values: &mut [u32], marks: &mut
         values,
         marks,
     );
-    h
+    Ok(h)
 }

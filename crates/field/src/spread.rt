@@ -44,21 +44,17 @@ fn spread_octet(bitmap: &[u8], values: &mut [u32], n: usize, g: usize, c: usize)
         × Settles (bits_in 8 bitmap.now) n values.old values.new g }
 {
     let b = bitmap[g];
-    let mut j: usize = 8;
     let mut d = c;
     if b == 0 {
-        while j > 0 {
-            j -= 1;
+        for j in (0..8).rev() {
             d = settle(values, g * 8 + j, d, 0);
         }
     } else if b == 255 {
-        while j > 0 {
-            j -= 1;
+        for j in (0..8).rev() {
             d = settle(values, g * 8 + j, d, 1);
         }
     } else {
-        while j > 0 {
-            j -= 1;
+        for j in (0..8).rev() {
             d = settle(values, g * 8 + j, d, bit(b, j));
         }
     }
@@ -74,15 +70,12 @@ pub(crate) fn spread(bitmap: &[u8], values: &mut [u32], n: usize, m: usize)
     ensures { values.new ≡
         tab (value_at (bits_in 8 bitmap.now) values.old) n ++ drop n values.old }
 {
-    let mut i = n;
+    let whole = n / 8;
     let mut c = m;
-    while i % 8 != 0 {
-        i -= 1;
+    for i in (whole * 8..n).rev() {
         c = settle(values, i, c, bit(bitmap[i / 8], i % 8));
     }
-    let mut g = i / 8;
-    while g > 0 {
-        g -= 1;
+    for g in (0..whole).rev() {
         c = spread_octet(bitmap, values, n, g, c);
     }
 }

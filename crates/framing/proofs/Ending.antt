@@ -2,7 +2,7 @@
 use mathlib.Core.Path.{◌≡◌, refl, sym, ap, ap₂, ◌∙◌}
 use mathlib.Core.Bool.{Bool, true, cond}
 use mathlib.Core.List.{List, [], ◌∷◌, ◌++◌, append_assoc, append-nil}
-use mathlib.Core.Logic.{◌⊎◌, ⊎_elim}
+use mathlib.Core.Logic.{⊎_elim}
 use Prim.Native.Nat.{ℕ, ◌+◌, ◌-◌, ◌*◌, ◌/◌, ◌%◌, ◌^◌, ◌≤◌, ◌<◌}
 use native.Mathlib.Nat.{zero-add, add-zero, zero-div}
 use native.Mathlib.Omega.{arith}
@@ -10,7 +10,6 @@ use lib.ListN.{length, take, drop, length-append, length-drop}
 use lib.Seq.{take-append-le, take_at, drop_at, drop-append-add, drop-drop, length-take-le}
 use Rattle.rules.specs.Bounds.{the_bits_most}
 use Rattle.bits.specs.Bits.{bit_of, bits_in, runs, octets_for, number_at, count, packed_into, placed, Wide}
-use Rattle.bits.specs.Tables.{tab}
 use Rattle.bits.proofs.Runs.{lt_or_ge}
 use Rattle.bits.proofs.Fill.{tab-of}
 use Rattle.bits.proofs.Trip.{length_runs, runs_ext, bits-past}

@@ -1,5 +1,6 @@
 -- What is laid down around the values: what the parts' bounds leave, each way out of `lay`, and what its answer says of
 -- them.
+use Rattle.std.specs.Prelude.{None, Option, Some}
 use mathlib.Core.Path.{◌≡◌, refl, sym, ap, ap₂, ◌∙◌}
 use mathlib.Core.Bool.{Bool, true, false, ◌||◌}
 use mathlib.Core.List.{List, ◌++◌}
@@ -21,11 +22,14 @@ use Rattle.bits.proofs.Tests.{or_left, or_right}
 use Rattle.writable.specs.Rows.{exponent_faults}
 use Rattle.writable.proofs.Accepted.{scale_ok}
 use Rattle.framing.specs.declared.{Frame.Frame}
-use Rattle.framing.specs.Layout.{marked_count, the_bds_room, front_room, the_message_room, front_by, head_by}
-use Rattle.framing.specs.Framing.{the_given_bad, unsound, length_in, unframed, frame_of, frame_in, framed}
+use Rattle.framing.specs.Layout.{marked_count, room_most, the_bds_room, front_room, the_message_room, front_by, head_by}
+use Rattle.framing.specs.Framing.{the_given_bad, unsound, length_in, unframed, frame_of, frame_in_room, frame_in, framed}
 use Rattle.framing.proofs.Sections.{front_length, head_length}
-use Rattle.framing.proofs.Lengths.{Held, bds-held}
+use Rattle.framing.proofs.Lengths.{Held, bds-held, message-few}
 use Rattle.framing.proofs.Marks.{present-few}
+
+some-is : (x y : Frame) → Some x ≡ Some y → x ≡ y
+some-is x y e = cc
 
 module _ (pds : List ℕ) (form : Form) (scale : Scale) (marks : List ℕ) (n : ℕ) where
   abbrev far : Bool
@@ -72,8 +76,17 @@ module _ (pds : List ℕ) (form : Form) (scale : Scale) (marks : List ℕ) (n : 
   unfolding unsound
   parts-sound g s eg es h = sym (ap₂ (λ (x y : Bool). ((far || many) || x) || y) eg es) ∙ h
 
-  abbrev nothing : Frame
-  nothing = record { at = 0; present = 0; len = 0 }
+  pub sound-read : (g s : Bool) → g ≡ the_given_bad form.grid → s ≡ off → ((far || many) || g) || s ≡ false → Sound
+  sound-read g s eg es h = sound-of (parts-sound g s eg es h)
+
+  -- how many points are present, and how long the message is
+  pub few-present : Sound → (m : ℕ) → m ≡ marked_count marks n → m ≤ points_most
+  few-present k m e = omega (arith, e, present-few marks n, k.few)
+
+  pub small : Sound → (m : ℕ) → m ≡ marked_count marks n → (len : ℕ) → len ≡ the_message_room (length pds) form n m
+      → len ≤ room_most
+  small k m e len el =
+      omega (arith, el, message-few (length pds) form n m k.pds-most k.few (few-present k m e) k.bits)
 
   abbrev whole : Frame
   whole = record { at = front_room (length pds) form n + bds_head; present = marked_count marks n; len = length_in pds form marks n }
@@ -82,27 +95,28 @@ module _ (pds : List ℕ) (form : Form) (scale : Scale) (marks : List ℕ) (n : 
     abbrev shut : Bool
     shut = unframed pds form scale marks n (length out)
 
+    abbrev answer : Option Frame
+    answer = frame_in_room pds form scale marks n (length out)
+
     -- nothing is laid down, or all is
-    none : shut ≡ true
-        → (nothing ≡ frame_of pds form scale marks n (length out)) × (out ≡ framed pds form scale marks n out)
-    unfolding frame_of framed
+    none : shut ≡ true → (None ≡ answer) × (out ≡ framed pds form scale marks n out)
+    unfolding frame_in_room framed
     none h = (rw h, rw h)
 
     all : shut ≡ false
-        → (whole ≡ frame_of pds form scale marks n (length out))
-        × (frame_in pds form scale marks n out ≡ framed pds form scale marks n out)
-    unfolding frame_of framed
+        → (Some whole ≡ answer) × (frame_in pds form scale marks n out ≡ framed pds form scale marks n out)
+    unfolding frame_of frame_in_room framed
     all h = (rw h, rw h)
 
     pub refused-parts : (g s : Bool) → g ≡ the_given_bad form.grid → s ≡ off → ((far || many) || g) || s ≡ true
-        → (nothing ≡ frame_of pds form scale marks n (length out)) × (out ≡ framed pds form scale marks n out)
+        → (None ≡ answer) × (out ≡ framed pds form scale marks n out)
     unfolding unframed unsound
     refused-parts g s eg es h =
         let u : (((far || many) || the_given_bad form.grid) || off) ≡ true = sym (ap₂ (λ (x y : Bool). ((far || many) || x) || y) eg es) ∙ h in
         none (rw u)
 
     pub refused-room : unsound pds form scale n ≡ false → (len : ℕ) → len ≡ length_in pds form marks n → length out < len
-        → (nothing ≡ frame_of pds form scale marks n (length out)) × (out ≡ framed pds form scale marks n out)
+        → (None ≡ answer) × (out ≡ framed pds form scale marks n out)
     unfolding unframed
     refused-room s len e h = none (rw (s, lt-ltb (length out) (length_in pds form marks n) (omega arith)))
 
@@ -114,7 +128,7 @@ module _ (pds : List ℕ) (form : Form) (scale : Scale) (marks : List ℕ) (n : 
         → (o₂ : List ℕ)
         → o₂ ≡ placed (placed o₁ d (head_by form.packing scale m)) (d + (the_bds_room form.packing.bits m - 1))
         (octets 1 0)
-        → (record { at = d + bds_head; present = m; len = len } ≡ frame_of pds form scale marks n (length out)) × (o₂ ≡ framed pds form scale marks n out)
+        → (Some (record { at = d + bds_head; present = m; len = len }) ≡ answer) × (o₂ ≡ framed pds form scale marks n out)
     unfolding unframed frame_in the_message_room the_bds_room
     laid-down s m em len el room d ed o₁ e₁ o₂ e₂ =
         let l : len ≡ length_in pds form marks n = el ∙ ap (the_message_room (length pds) form n) em in
@@ -124,7 +138,7 @@ module _ (pds : List ℕ) (form : Form) (scale : Scale) (marks : List ℕ) (n : 
         let f = front_length pds form (mark_of marks) n len in
         let h = head_length form.packing scale m in
         let j : d ≡ 0 + length (F len) = ed ∙ sym f ∙ sym (zero-add (length (F len))) in (
-          (ap₂ {C = Frame} (λ (x y : ℕ). record { at = x + bds_head; present = y; len = len }) ed em ∙ ap {B = Frame} (λ (x : ℕ). record { at = front_room (length pds) form n + bds_head; present = marked_count marks n; len = x }) l) ∙ a.0,
+          ap {A = Frame} Some (ap₂ {C = Frame} (λ (x y : ℕ). record { at = x + bds_head; present = y; len = len }) ed em ∙ ap {B = Frame} (λ (x : ℕ). record { at = front_room (length pds) form n + bds_head; present = marked_count marks n; len = x }) l) ∙ a.0,
           e₂
               ∙ ap₂ (λ (x : List ℕ) (k : ℕ). placed (placed x k (H m)) (d + (the_bds_room form.packing.bits m - 1))
               (octets 1 0)) e₁ j
@@ -138,11 +152,10 @@ module _ (pds : List ℕ) (form : Form) (scale : Scale) (marks : List ℕ) (n : 
         )
 
     -- what the answer says
-    pub shut-of : unsound pds form scale n ≡ false → (f : Frame) → f ≡ frame_of pds form scale marks n (length out)
-        → f.len ≡ 0
+    pub shut-of : unsound pds form scale n ≡ false → None ≡ answer
         → (length out < length_in pds form marks n) × (framed pds form scale marks n out ≡ out)
-    unfolding unframed the_message_room
-    shut-of s f e z = go shut refl
+    unfolding unframed
+    shut-of s e = go shut refl
       where
         go : (t : Bool) → shut ≡ t
             → (length out < length_in pds form marks n) × (framed pds form scale marks n out ≡ out)
@@ -151,9 +164,7 @@ module _ (pds : List ℕ) (form : Form) (scale : Scale) (marks : List ℕ) (n : 
               (sym (ap (λ (x : Bool). x || ltb (length out) (length_in pds form marks n)) s) ∙ h),
           sym (none h).1,
         )
-        go false h = absurd
-            (let q : length_in pds form marks n ≡ 0 = ap (λ (x : Frame). x.len) (all h).0
-            ∙ sym (ap (λ (x : Frame). x.len) e) ∙ z in omega (arith, q))
+        go false h = absurd (cc (e ∙ sym (all h).0))
 
     -- all is laid down: where the data go, and that they have room
     pub record Begun (f : Frame) : Type 0 where
@@ -164,15 +175,14 @@ module _ (pds : List ℕ) (form : Form) (scale : Scale) (marks : List ℕ) (n : 
       pub is : framed pds form scale marks n out ≡ frame_in pds form scale marks n out
       pub held : Held form.packing.bits (marked_count marks n)
 
-    pub begun-of : unsound pds form scale n ≡ false → (f : Frame) → f ≡ frame_of pds form scale marks n (length out)
-        → (f.len ≡ 0 → ⊥) → Begun f
+    pub begun-of : unsound pds form scale n ≡ false → (f : Frame) → Some f ≡ answer → Begun f
     unfolding unframed
-    begun-of s f e z = go shut refl
+    begun-of s f e = go shut refl
       where
         go : (t : Bool) → shut ≡ t → Begun f
-        go true h = absurd (z (ap (λ (x : Frame). x.len) (e ∙ sym (none h).0)))
+        go true h = absurd (cc (e ∙ sym (none h).0))
         go false h =
-            let q = e ∙ sym (all h).0 in
+            let q = some-is f whole (e ∙ sym (all h).0) in
             let k = sound-of s in
             record {
               at = ap (λ (x : Frame). x.at) q;

@@ -1,5 +1,6 @@
 -- How many octets sections take: bounds that keep code's sums in their types, and that the rooms are the sections'
 -- lengths.
+use Rattle.std.specs.Prelude.{None, Option, Some}
 use mathlib.Core.Path.{◌≡◌, refl, ap, ◌∙◌}
 use mathlib.Core.List.{List, []}
 use Prim.Native.Nat.{ℕ, ◌+◌, ◌-◌, ◌*◌, ◌≤◌}
@@ -9,8 +10,7 @@ use lib.ListN.{length}
 use Rattle.bits.specs.Bits.{bits_in, octets_for, runs}
 use Rattle.bits.specs.Tables.{tab}
 use Rattle.bits.proofs.Trip.{length_runs}
-use Rattle.rules.specs.declared.{Found.Found, Found.TheVariants.Nothing, Found.TheVariants.Given}
-use Rattle.rules.specs.declared.{Bitmap.Bitmap, Bitmap.TheVariants.Without, Bitmap.TheVariants.Carried}
+use Rattle.rules.specs.declared.{Bitmap.Bitmap, Bitmap.TheVariants.Without, Bitmap.TheVariants.Carried, Grid.Grid}
 use Rattle.rules.specs.declared.{Bitmap.TheVariants.Stored, Form.Form, Scale.Scale, Packing.Packing}
 use Rattle.rules.specs.Bounds.{pds_most, thinned_length, bms_head, bds_least, bds_head, points_most, the_bits_most}
 use Rattle.rules.specs.Numbers.{even_from}
@@ -32,10 +32,10 @@ kind-few lambert = omega arith
 kind-few gaussian = omega arith
 kind-few polar = omega arith
 
-pub gds-few : (f : Found) → gds_room f ≤ thinned_length
+pub gds-few : (f : Option Grid) → gds_room f ≤ thinned_length
 unfolding gds_room
-gds-few Nothing = omega arith
-gds-few (Given g) = kind-few (kind_of g.geometry)
+gds-few None = omega arith
+gds-few (Some g) = kind-few (kind_of g.geometry)
 
 pub bms-few : (b : Bitmap) (n : ℕ) → n ≤ points_most → the_bms_room b n ≤ bms_most
 unfolding the_bms_room
@@ -73,10 +73,10 @@ bds-held bits m h k =
     record { least = omega arith; most = omega arith; low = omega arith; high = omega arith; holds = omega arith; spare = omega arith; few = f }
 
 -- the rooms are lengths
-pub gds-room : (f : Found) → length (gds_for f) ≡ gds_room f
+pub gds-room : (f : Option Grid) → length (gds_for f) ≡ gds_room f
 unfolding gds_room
-gds-room Nothing = refl
-gds-room (Given g) = gds-length g
+gds-room None = refl
+gds-room (Some g) = gds-length g
 
 pub bms-room : (b : Bitmap) (present : ℕ → ℕ) (n : ℕ) → length (bms_of b present n) ≡ the_bms_room b n
 unfolding the_bms_room bms_of

@@ -1,21 +1,23 @@
 -- The message as it is laid down, its length, and what the table, the answer and the lent octets are after each way out
 -- of the writer.
+use Rattle.std.specs.Prelude.{None, Option, Some, Result, Ok, Err}
 use mathlib.Core.Path.{◌≡◌, refl, sym, ap, ap₂, ◌∙◌}
 use mathlib.Core.Bool.{Bool, true, false, cond}
 use mathlib.Core.List.{List, [], ◌∷◌, ◌++◌, append_assoc, append-nil}
 use Prim.Native.Nat.{ℕ, ◌+◌, ◌-◌, ◌*◌, ◌/◌, ◌≤◌}
 use native.Mathlib.Omega.{arith}
-use borrow.Author.Tests.{ne_eqb, eqb-false, lt-ltb, le-ltb}
-use lib.Dec.{eqb, ltb}
+use borrow.Author.Tests.{lt-ltb, le-ltb}
+use lib.Dec.{ltb}
 use lib.ListN.{length, take, drop, length-append}
 use Rattle.rules.specs.Bounds.{bds_head, the_bits_most}
 use Rattle.bits.specs.Bits.{bits_in, runs, count, placed, packed_into}
 use Rattle.bits.proofs.Runs.{Bits}
 use Rattle.bits.proofs.Trip.{length_runs}
 use Rattle.bits.proofs.Placing.{placed-front, length-placed, placed-next}
-use Rattle.rules.specs.declared.{Refusal.Refusal, Found.Found, Grid.Grid, Form.Form, Scale.Scale, Written.Written}
+use Rattle.rules.specs.declared.{Refusal.Refusal, Grid.Grid, Form.Form, Scale.Scale}
+use Rattle.rules.specs.Answers.{judged, length_reply}
 use Rattle.rules.specs.Numbers.{field, octets, laid, joined}
-use Rattle.rules.specs.Table.{Row, row, refusal, first_or, first, filled}
+use Rattle.rules.specs.Table.{Row, row, refusal, accepted, filled}
 use Rattle.rules.specs.Places.{sevens}
 use Rattle.rules.specs.Grid.{the_grid_from, grid_or_zeros, points_of}
 use Rattle.rules.specs.Bitmap.{bms_of, mark_of, value_of}
@@ -24,7 +26,8 @@ use Rattle.rules.specs.Values.{bds_of}
 use Rattle.rules.specs.Writing.{Parts, grid_for, points_for, gds_for, parts_faults, sections_for, message, write_table}
 use Rattle.rules.specs.Writing.{write_refusal, length_of, write_of, output_after}
 use Rattle.puts.specs.Put.{the_put_number}
-use Rattle.reply.proofs.Stages.{stop, go_on}
+use Rattle.reply.proofs.Judged.{then_judged, judged_append, taken_first, refused_first}
+use Rattle.laws.proofs.Rows.{Numbered}
 use Rattle.laws.proofs.Fields.{laid-length}
 use Rattle.laws.proofs.Gathered.{length-gathered, wide-gathered}
 use Rattle.writable.specs.Rows.{front_rows, exponent_faults, middle_rows, early_rows, the_points_bad, list_faults, own_rows}
@@ -34,7 +37,7 @@ use Rattle.framing.specs.Given.{parts}
 use Rattle.rules.specs.Writing.{indicator_fields}
 use Rattle.framing.specs.Layout.{marked_count, the_bds_room, front_room, the_message_room, sections_by, message_by, front_by}
 use Rattle.framing.specs.Layout.{head_by}
-use Rattle.framing.specs.Framing.{length_in, frame_of, frame_in, framed}
+use Rattle.framing.specs.Framing.{length_in, frame_in_room, frame_in, framed}
 use Rattle.puts.proofs.Laying.{laid-rest}
 use Rattle.framing.proofs.Lengths.{gds-room, bms-room, bds-room}
 use Rattle.framing.proofs.Marks.{present-count}
@@ -161,7 +164,7 @@ pub record Room (form : Form) (values marks : List ℕ) (f : Frame) (long : ℕ)
   pub end : 4 ≤ f.len
 
 -- the answers
-module _ (pds : List ℕ) (form : Form) (scale : Scale) (number : ℕ) (store values marks out : List ℕ) (found : Found)
+module _ (pds : List ℕ) (form : Form) (scale : Scale) (number : ℕ) (store values marks out : List ℕ) (found : Option Grid)
     (ef : found ≡ the_grid_from form.grid pds 0) (g : Grid) (eg : g ≡ grid_or_zeros found) (n : ℕ) (en : n ≡ points_of g) where
   abbrev w : Parts
   w = parts pds form scale number store values marks
@@ -174,7 +177,7 @@ module _ (pds : List ℕ) (form : Form) (scale : Scale) (number : ℕ) (store va
 
   n-of : n ≡ points_for w
   unfolding points_for grid_for
-  n-of = en ∙ ap points_of eg ∙ ap (λ (x : Found). points_of (grid_or_zeros x)) ef
+  n-of = en ∙ ap points_of eg ∙ ap (λ (x : Option Grid). points_of (grid_or_zeros x)) ef
 
   message-of : message w ≡ message_by pds form scale (mark_of marks) (value_of values) n
   unfolding message message_by sections_for sections_by
@@ -183,103 +186,107 @@ module _ (pds : List ℕ) (form : Form) (scale : Scale) (number : ℕ) (store va
   table : write_table w out ≡ own ++ (row 14 last ∷ [])
   unfolding write_table own_rows early_rows front_rows middle_rows exponent_faults list_faults the_points_bad parts_faults grid_for
   table =
-      sym (ap₂ (λ (x : Found) (y : ℕ). own_rows pds form scale w.lent values marks x y ++ (row 14 last ∷ [])) ef n-of)
+      sym (ap₂ (λ (x : Option Grid) (y : ℕ). own_rows pds form scale w.lent values marks x y ++ (row 14 last ∷ [])) ef n-of)
 
-  module _ (r : Refusal) (er : r ≡ first own) where
-    early : (r.number ≡ 0 → ⊥) → write_refusal w out ≡ r
-    unfolding write_refusal first own_rows early_rows front_rows middle_rows
-    early z =
-        ap (λ (x : List Row). first_or x (refusal 0)) table
-        ∙ sym (stop own (row 14 last ∷ []) (refusal 0) r tt er z)
+  by-rows : judged (write_table w out) ≡ then_judged (judged own) (cond last (Err (refusal 14)) (Ok tt))
+  unfolding judged
+  by-rows = ap judged table ∙ judged_append own (row 14 last ∷ [])
 
-    late : r.number ≡ 0 → (t : Bool) → last ≡ t → write_refusal w out ≡ cond t (refusal 14) (refusal 0)
-    unfolding write_refusal first first_or own_rows early_rows front_rows middle_rows
-    late z t e =
-        ap (λ (x : List Row). first_or x (refusal 0)) table
-        ∙ sym (go_on own (row 14 last ∷ []) (refusal 0) r tt er z
-        (cond t (refusal 14) (refusal 0)) (ap (λ (u : Bool). cond u (refusal 14) (refusal 0)) (sym e)))
+  numbered : Numbered (write_table w out)
+  unfolding write_table
+  numbered = tt
 
-    -- refused: the answer, and nothing written
-    refused : (q : Refusal) → write_refusal w out ≡ q → (q.number ≡ 0 → ⊥)
-        → (record { refusal = q; len = 0 } ≡ write_of w out) × (out ≡ output_after w out)
-    unfolding write_of output_after length_of filled
-    refused q e z =
-        let t : eqb q.number 0 ≡ false = ne_eqb q.number 0 z in (
-          rw (e, t),
-          rw (e, t),
-        )
+  -- what the rows say of the table's refusal
+  refusal_is : (r : Refusal) → Err r ≡ judged (write_table w out) → (write_refusal w out ≡ r) × (accepted r ≡ false)
+  unfolding write_refusal
+  refusal_is r e = refused_first (write_table w out) numbered r e
 
-    pub refused-early : (r.number ≡ 0 → ⊥)
-        → (record { refusal = r; len = 0 } ≡ write_of w out) × (out ≡ output_after w out)
-    refused-early z = refused r (early z) z
+  no-refusal : (u : Unit {0}) → Ok u ≡ judged (write_table w out) → write_refusal w out ≡ refusal 0
+  unfolding write_refusal
+  no-refusal u e = taken_first (write_table w out) u e
 
-    module _ (z : r.number ≡ 0) where
-      pub ready : Ready pds form scale values marks n
-      ready = ready_of pds form scale w.lent values marks found ef g eg n en r er z
+  -- refused: the answer, and nothing written
+  refused : (r : Refusal) → Err r ≡ judged (write_table w out)
+      → (Err r ≡ length_reply (write_of w out)) × (out ≡ output_after w out)
+  unfolding write_of output_after length_of filled
+  refused r e = let t = refusal_is r e in (rw (t.0, t.1), rw (t.0, t.1))
 
-      length-of : length_in pds form marks n ≡ length (message w)
-      length-of =
-          let k = ready in
-          ap (the_message_room (length pds) form n) (present-count marks k.listed.mark n)
-          ∙ sym (message-length pds form scale (mark_of marks) k.listed.mark (value_of values) n)
-          ∙ ap length (sym message-of)
+  pub refused-early : (r : Refusal) → Err r ≡ judged own
+      → (Err r ≡ length_reply (write_of w out)) × (out ≡ output_after w out)
+  refused-early r e = refused r (sym (by-rows ∙ rw (← e)))
 
-      -- with room for it the answer is its length, by its parts' rooms
-      pub roomy : length (message w) ≤ length out → (m : ℕ) → m ≡ marked_count marks n → (len : ℕ)
-          → len ≡ the_message_room (length pds) form n m → record { refusal = refusal 0; len = len } ≡ write_of w out
-      unfolding write_of length_of
-      roomy h m em len el =
-          let t : write_refusal w out ≡ refusal 0 = late z false (le-ltb (length out) (length (message w)) h) in
-          rw t (ap {B = Written} (λ (x : ℕ). record { refusal = refusal 0; len = x }) (el ∙ ap (the_message_room (length pds) form n) em ∙ length-of))
+  module _ (u : Unit {0}) (eu : Ok u ≡ judged own) where
+    late : (t : Bool) → last ≡ t → judged (write_table w out) ≡ cond t (Err (refusal 14)) (Ok tt)
+    late t e = by-rows ∙ rw (← eu, e)
 
-      module _ (f : Frame) (fe : f ≡ frame_of pds form scale marks n (length out)) where
-        pub refused-late : f.len ≡ 0 → (o : List ℕ) → o ≡ framed pds form scale marks n out
-            → (record { refusal = refusal 14; len = 0 } ≡ write_of w out) × (o ≡ output_after w out)
-        refused-late h o e =
-            let s = shut-of pds form scale marks n out ready.sound f fe h in
-            let l = length-of in
-            let q = refused (refusal 14) (late z true (lt-ltb (length out) (length (message w)) (omega (arith, s.0, l)))) (eqb-false 14 0 refl) in
-            (q.0, e ∙ s.1 ∙ q.1)
+    taken : last ≡ false → write_refusal w out ≡ refusal 0
+    taken e = no-refusal tt (sym (late false e))
 
-        module _ (nz : f.len ≡ 0 → ⊥) where
-          begun : Begun pds form scale marks n out f
-          begun = begun-of pds form scale marks n out ready.sound f fe nz
+    pub ready : Ready pds form scale values marks n
+    ready = ready_of pds form scale w.lent values marks found ef g eg n en u eu
 
-          pub room_of : Room form values marks f (length out)
-          unfolding the_message_room
-          room_of =
-              let k = begun in
-              let h = k.held in
-              let p : f.present * form.packing.bits ≡ marked_count marks n * form.packing.bits = ap (λ (x : ℕ). x * form.packing.bits) k.present in
-              record {
-                bits = ready.bits;
-                listed = ready.listed;
-                present = k.present ∙ present-count marks ready.listed.mark n
-                    ∙ ap (count (mark_of marks) 0) (sym ready.long);
-                start = omega (arith, k.at, k.room, h.least);
-                data_room = omega (arith, k.at, k.room, h.least, h.holds, p);
-                end = omega (arith, k.len);
-              }
+    length-of : length_in pds form marks n ≡ length (message w)
+    length-of =
+        let k = ready in
+        ap (the_message_room (length pds) form n) (present-count marks k.listed.mark n)
+        ∙ sym (message-length pds form scale (mark_of marks) k.listed.mark (value_of values) n)
+        ∙ ap length (sym message-of)
 
-          pub written : (o₁ : List ℕ) → o₁ ≡ framed pds form scale marks n out
-              → (q : List ℕ)
-              → q ≡ packed_into form.packing.bits (gathered (mark_of marks) (value_of values) (length values))
-              (take (length o₁ - f.at) (drop f.at o₁))
-              → (o₃ : List ℕ)
-              → o₃ ≡ the_put_number (take f.at o₁ ++ (q ++ drop (length o₁ - f.at) (drop f.at o₁))) (f.len - 4) 1 4
-              sevens
-              → (record { refusal = refusal 0; len = f.len } ≡ write_of w out) × (o₃ ≡ output_after w out)
-          unfolding write_of output_after length_of filled
-          written o₁ e₁ q fill o₃ e₃ =
-              let k = begun in
-              let l = length-of in
-              let t : write_refusal w out ≡ refusal 0 = late z false (le-ltb (length out) (length (message w)) (omega (arith, k.room, l))) in
-              let p : o₃ ≡ placed out 0 (message w) =
-              whole-placed pds form scale values marks n out ready.listed f k o₁ e₁ q
-              (fill ∙ ap
-              (λ (x : ℕ). packed_into form.packing.bits (gathered (mark_of marks) (value_of values) x)
-              (take (length o₁ - f.at) (drop f.at o₁))) ready.long) o₃ e₃
-              ∙ ap (placed out 0) (sym message-of) in (
-                rw t (ap {B = Written} (λ (x : ℕ). record { refusal = refusal 0; len = x }) (k.len ∙ l)),
-                rw t (p ∙ placed-front out (message w)),
-              )
+    -- with room for it the answer is its length, by its parts' rooms
+    pub roomy : length (message w) ≤ length out → (m : ℕ) → m ≡ marked_count marks n → (len : ℕ)
+        → len ≡ the_message_room (length pds) form n m → Ok len ≡ length_reply (write_of w out)
+    unfolding write_of length_of
+    roomy h m em len el =
+        let t : write_refusal w out ≡ refusal 0 = taken (le-ltb (length out) (length (message w)) h) in
+        rw t (ap {B = Result ℕ Refusal} Ok (el ∙ ap (the_message_room (length pds) form n) em ∙ length-of))
+
+    pub refused-late : None ≡ frame_in_room pds form scale marks n (length out) → (o : List ℕ)
+        → o ≡ framed pds form scale marks n out
+        → (Err (refusal 14) ≡ length_reply (write_of w out)) × (o ≡ output_after w out)
+    refused-late h o e =
+        let s = shut-of pds form scale marks n out ready.sound h in
+        let l = length-of in
+        let q = refused (refusal 14) (sym (late true (lt-ltb (length out) (length (message w)) (omega (arith, s.0, l))))) in
+        (q.0, e ∙ s.1 ∙ q.1)
+
+    module _ (f : Frame) (fe : Some f ≡ frame_in_room pds form scale marks n (length out)) where
+      begun : Begun pds form scale marks n out f
+      begun = begun-of pds form scale marks n out ready.sound f fe
+
+      pub room_of : Room form values marks f (length out)
+      unfolding the_message_room
+      room_of =
+          let k = begun in
+          let h = k.held in
+          let p : f.present * form.packing.bits ≡ marked_count marks n * form.packing.bits = ap (λ (x : ℕ). x * form.packing.bits) k.present in
+          record {
+            bits = ready.bits;
+            listed = ready.listed;
+            present = k.present ∙ present-count marks ready.listed.mark n
+                ∙ ap (count (mark_of marks) 0) (sym ready.long);
+            start = omega (arith, k.at, k.room, h.least);
+            data_room = omega (arith, k.at, k.room, h.least, h.holds, p);
+            end = omega (arith, k.len);
+          }
+
+      pub written : (o₁ : List ℕ) → o₁ ≡ framed pds form scale marks n out
+          → (q : List ℕ)
+          → q ≡ packed_into form.packing.bits (gathered (mark_of marks) (value_of values) (length values))
+          (take (length o₁ - f.at) (drop f.at o₁))
+          → (o₃ : List ℕ)
+          → o₃ ≡ the_put_number (take f.at o₁ ++ (q ++ drop (length o₁ - f.at) (drop f.at o₁))) (f.len - 4) 1 4 sevens
+          → (Ok f.len ≡ length_reply (write_of w out)) × (o₃ ≡ output_after w out)
+      unfolding write_of output_after length_of filled
+      written o₁ e₁ q fill o₃ e₃ =
+          let k = begun in
+          let l = length-of in
+          let t : write_refusal w out ≡ refusal 0 = taken (le-ltb (length out) (length (message w)) (omega (arith, k.room, l))) in
+          let p : o₃ ≡ placed out 0 (message w) =
+          whole-placed pds form scale values marks n out ready.listed f k o₁ e₁ q
+          (fill ∙ ap
+          (λ (x : ℕ). packed_into form.packing.bits (gathered (mark_of marks) (value_of values) x)
+          (take (length o₁ - f.at) (drop f.at o₁))) ready.long) o₃ e₃
+          ∙ ap (placed out 0) (sym message-of) in (
+            rw t (ap {B = Result ℕ Refusal} Ok (k.len ∙ l)),
+            rw t (p ∙ placed-front out (message w)),
+          )

@@ -1,4 +1,5 @@
 -- Sections laid down: what each kind of grid and bitmap leaves, and the front of a message out of its four parts.
+use Rattle.std.specs.Prelude.{None, Option, Some}
 use mathlib.Core.Path.{◌≡◌, refl, sym, ap, ap₂, subst, ◌∙◌}
 use mathlib.Core.Bool.{Bool, true, false, not, cond, ◌&&◌}
 use mathlib.Core.List.{List, [], ◌++◌, append_assoc}
@@ -13,8 +14,7 @@ use Rattle.bits.specs.Bits.{bits_in, octets_for, runs, placed}
 use Rattle.bits.specs.Tables.{tab}
 use Rattle.bits.proofs.Trip.{length_runs}
 use Rattle.bits.proofs.Placing.{placed-none, length-placed, number-placed}
-use Rattle.rules.specs.declared.{Found.Found, Found.TheVariants.Nothing, Found.TheVariants.Given}
-use Rattle.rules.specs.declared.{Bitmap.Bitmap, Bitmap.TheVariants.Without, Bitmap.TheVariants.Carried}
+use Rattle.rules.specs.declared.{Bitmap.Bitmap, Bitmap.TheVariants.Without, Bitmap.TheVariants.Carried, Grid.Grid}
 use Rattle.rules.specs.declared.{Bitmap.TheVariants.Stored, Form.Form, Packing.Packing, Scale.Scale}
 use Rattle.rules.specs.Numbers.{octets, laid, even_from}
 use Rattle.rules.specs.Bitmap.{bms_of, mark_of}
@@ -35,12 +35,12 @@ use Rattle.puts.proofs.Laying.{laid-rest, number_put, two-placed, three-placed}
 use Rattle.framing.proofs.Lengths.{gds-room, bms-room}
 
 -- the grid that is given, put where there is room for it
-found-held : (f : Found) → the_given_bad f ≡ false → the_found_holds f ≡ true
+found-held : (f : Option Grid) → the_given_bad f ≡ false → the_found_holds f ≡ true
 unfolding the_found_holds
-found-held Nothing b = refl
-found-held (Given g) b = ap not (grid-held g b)
+found-held None b = refl
+found-held (Some g) b = ap not (grid-held g b)
 
-pub grid-put : (f : Found) (d o : List ℕ) (at : ℕ) → the_given_bad f ≡ false → at + gds_room f ≤ length d → o ≡ the_gds_put d at f
+pub grid-put : (f : Option Grid) (d o : List ℕ) (at : ℕ) → the_given_bad f ≡ false → at + gds_room f ≤ length d → o ≡ the_gds_put d at f
     → o ≡ placed d at (gds_for f)
 unfolding the_gds_put gds_fits
 grid-put f d o at b h e =

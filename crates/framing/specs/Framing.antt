@@ -1,7 +1,7 @@
 -- All of a message but its values: when it is laid down, what is answered, and what the lent octets hold then.
-use Rattle.std.specs.Prelude.{ℕ, ◌+◌, ◌-◌, Bool, false, ◌||◌, cond, List, ◌++◌, ltb, length}
+use Rattle.std.specs.Prelude.{ℕ, ◌+◌, ◌-◌, Bool, false, ◌||◌, cond, List, ◌++◌, ltb, length, None, Option, Some}
 use Rattle.bits.specs.Bits.{placed}
-use Rattle.rules.specs.declared.{Found.Found, Found.TheVariants.Nothing, Found.TheVariants.Given, Form.Form}
+use Rattle.rules.specs.declared.{Form.Form, Grid.Grid}
 use Rattle.rules.specs.declared.{Scale.Scale}
 use Rattle.rules.specs.Bounds.{pds_most, bds_head, points_most}
 use Rattle.rules.specs.Numbers.{octets}
@@ -13,9 +13,9 @@ use Rattle.framing.specs.declared.{Frame.Frame}
 use Rattle.framing.specs.Layout.{marked_count, the_bds_room, front_room, the_message_room, front_by, head_by}
 
 -- 9, of a grid that is given
-abbrev pub the_given_bad : Found → Bool
-the_given_bad Nothing = false
-the_given_bad (Given g) = any_of (grid_faults g)
+abbrev pub the_given_bad : Option Grid → Bool
+the_given_bad None = false
+the_given_bad (Some g) = any_of (grid_faults g)
 
 -- parts that are out of the rules' bounds, so that their octets would not hold them
 unfoldable pub unsound : List ℕ → Form → Scale → ℕ → Bool
@@ -35,6 +35,11 @@ unfoldable pub frame_of : List ℕ → Form → Scale → List ℕ → ℕ → �
 frame_of pds form scale marks n room =
     cond (unframed pds form scale marks n room) (record { at = 0; present = 0; len = 0 })
     (record { at = front_room (length pds) form n + bds_head; present = marked_count marks n; len = length_in pds form marks n })
+
+-- none where nothing is laid down
+unfoldable pub frame_in_room : List ℕ → Form → Scale → List ℕ → ℕ → ℕ → Option Frame
+frame_in_room pds form scale marks n room =
+    cond (unframed pds form scale marks n room) None (Some (frame_of pds form scale marks n room))
 
 -- the octets up to the data, and the data's last octet, which no value may reach, cleared
 unfoldable pub frame_in : List ℕ → Form → Scale → List ℕ → ℕ → List ℕ → List ℕ

@@ -1,6 +1,6 @@
 -- The message's parts in the order in which they are laid down, and how many octets each takes.
-use Rattle.std.specs.Prelude.{ℕ, ◌+◌, ◌-◌, ◌*◌, List, [], ◌∷◌, ◌++◌, length}
-use Rattle.rules.specs.declared.{Found.Found, Found.TheVariants.Nothing, Found.TheVariants.Given, Bitmap.Bitmap}
+use Rattle.std.specs.Prelude.{ℕ, ◌+◌, ◌-◌, ◌*◌, List, [], ◌∷◌, ◌++◌, length, None, Option, Some}
+use Rattle.rules.specs.declared.{Bitmap.Bitmap, Grid.Grid}
 use Rattle.rules.specs.declared.{Bitmap.TheVariants.Without, Bitmap.TheVariants.Carried, Bitmap.TheVariants.Stored}
 use Rattle.rules.specs.declared.{Form.Form, Scale.Scale, Packing.Packing}
 use Rattle.bits.specs.Bits.{octets_for, count}
@@ -19,9 +19,9 @@ unfoldable pub marked_count : List ℕ → ℕ → ℕ
 marked_count marks n = count (here marks) 0 n
 
 -- how many octets each section takes, of n points with m present
-unfoldable pub gds_room : Found → ℕ
-gds_room Nothing = 0
-gds_room (Given g) = gds_length_of g
+unfoldable pub gds_room : Option Grid → ℕ
+gds_room None = 0
+gds_room (Some g) = gds_length_of g
 
 unfoldable pub the_bms_room : Bitmap → ℕ → ℕ
 the_bms_room Without n = 0

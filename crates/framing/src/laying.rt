@@ -35,11 +35,7 @@ fn copy(s: &[u8], out: &mut [u8], at: usize)
     requires { at + length s.now ≤ length out.old }
     ensures { out.new ≡ placed out.old at s.now }
 {
-    let mut i: usize = 0;
-    while i < s.len() {
-        out[at + i] = s[i];
-        i += 1;
-    }
+    out[at..at + s.len()].copy_from_slice(s);
 }
 
 // What stands in a BMS before its bits.

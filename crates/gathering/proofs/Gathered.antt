@@ -10,15 +10,16 @@ use native.Mathlib.Omega.{arith}
 use native.Mathlib.Decide.{ℕ_discrete}
 use borrow.Author.Tests.{eq-eqb, ne_eqb}
 use lib.Dec.{eqb}
-use lib.ListN.{length, set, take, drop, length-append, length-set, length-drop}
+use lib.ListN.{length, get_or, set, take, drop, length-append, length-set, length-drop}
 use lib.Seq.{take-set-le, take-suc-set, take-append-add, length-take-le}
+use Rattle.std.proofs.lemmas.Option.{slice_get_read, slice_get-get_or}
 use Rattle.bits.specs.Bits.{count}
 use Rattle.bits.proofs.Runs.{Bits}
 use Rattle.bits.proofs.Ones.{count-one, count_none, count-le}
 use Rattle.rules.specs.Bitmap.{mark_of}
 use Rattle.rules.specs.Points.{gathered}
 use Rattle.laws.specs.Marks.{here}
-use Rattle.gathering.specs.Gather.{gather_into, gathered_of}
+use Rattle.gathering.specs.Gather.{set_some, gather_list, gather_into, gathered_of}
 use Rattle.gathering.proofs.Here.{here-one}
 
 -- of numbers it is `gathered`
@@ -35,20 +36,6 @@ gathered-here marks v (suc n) =
     ap₂ (λ (t : Bool) (x : List ℕ). cond t (x ++ (v n ∷ [])) x) (here-one marks n) (gathered-here marks v n)
 
 module _ {A : Type 0} (f : ℕ → ℕ) (v : ℕ → A) where
-  pub gather_none : (held : List A) → (0 ≡ count f 0 0) × (held ≡ gather_into f v 0 held)
-  unfolding gather_into count
-  gather_none held = (refl, refl)
-
-  -- a turn of the loop: x is stored at the place d, and the place moves by r
-  pub gather_turn : (j d r : ℕ) (x : A) (held first : List A) → d ≡ count f 0 j → held ≡ gather_into f v j first
-      → x ≡ v j → r ≡ f j
-      → (d + r ≡ count f 0 (j + 1)) × (set held d x ≡ gather_into f v (j + 1) first)
-  unfolding gather_into count
-  gather_turn j d r x held first e h k l = (
-    rw add-one (ap₂ (λ (a b : ℕ). a + b) e (l ∙ ap f (sym (zero-add j)))),
-    rw add-one ((λ i. set (h i) (e i) (k i))),
-  )
-
   pub length-gather_into : (n : ℕ) (held : List A) → length (gather_into f v n held) ≡ length held
   unfolding gather_into
   length-gather_into zero held = refl
@@ -61,6 +48,35 @@ module _ {A : Type 0} (f : ℕ → ℕ) (v : ℕ → A) where
   pub gathered-out : (n : ℕ) → (f n ≡ 1 → ⊥) → gathered_of f v (n + 1) ≡ gathered_of f v n
   unfolding gathered_of
   gathered-out n h = rw (add-one, ne_eqb (f n) 1 h)
+
+-- of a list of values, whatever it has past its end
+module _ {A : Type 0} (f : ℕ → ℕ) (xs : List A) where
+  pub list_none : (held : List A) → (0 ≡ count f 0 0) × (held ≡ gather_list f xs 0 held)
+  unfolding gather_list count
+  list_none held = (refl, refl)
+
+  -- a turn of the loop: x is stored at the place d, and the place moves by r
+  pub list_turn : (j d r : ℕ) (x : A) (held first : List A) → d ≡ count f 0 j → held ≡ gather_list f xs j first
+      → j < length xs → x ≡ get_or xs j x → r ≡ f j
+      → (d + r ≡ count f 0 (j + 1)) × (set held d x ≡ gather_list f xs (j + 1) first)
+  unfolding gather_list set_some count
+  list_turn j d r x held first e h i k l = (
+    rw add-one (ap₂ (λ (a b : ℕ). a + b) e (l ∙ ap f (sym (zero-add j)))),
+    rw (add-one, slice_get_read xs (length xs) j x refl i k) (ap₂ (λ (o : List A) (n : ℕ). set o n x) h e),
+  )
+
+  pub list_into : (d : A) (n : ℕ) (held : List A) → n ≤ length xs
+      → gather_list f xs n held ≡ gather_into f (λ j. get_or xs j d) n held
+  unfolding gather_list set_some gather_into
+  list_into d zero held l = refl
+  list_into d (suc n) held l =
+      rw (slice_get-get_or xs n d (omega arith))
+      (ap (λ (o : List A). set o (count f 0 n) (get_or xs n d)) (list_into d n held (omega arith)))
+
+  -- what a block leaves, where it fits and where it does not
+  pub held_into : (d : A) (b : Bool) (held : List A)
+      → cond b (gather_list f xs (length xs) held) held ≡ cond b (gather_into f (λ j. get_or xs j d) (length xs) held) held
+  held_into d b held = ap (λ (o : List A). cond b o held) (list_into d (length xs) held (omega arith))
 
 -- what holds of no point, and goes on over a present and over an absent one
 by-points : (f : ℕ → ℕ) (P : ℕ → Type 0) → P 0 → ((m : ℕ) → f m ≡ 1 → P m → P (m + 1))

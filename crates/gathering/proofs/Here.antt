@@ -3,20 +3,11 @@ use mathlib.Core.Path.{◌≡◌, refl, sym, ap, ap₂, ◌∙◌}
 use mathlib.Core.Bool.{Bool, true, false, cond, ◌&&◌}
 use mathlib.Core.List.{List}
 use mathlib.Core.Logic.{⊎_elim}
-use Prim.Native.Nat.{ℕ, ◌+◌, ◌-◌, ◌^◌, ◌≤◌, ◌<◌}
-use native.Mathlib.Nat.{le_refl}
+use Prim.Native.Nat.{ℕ, ◌+◌, ◌-◌, ◌≤◌, ◌<◌}
 use native.Mathlib.Omega.{arith}
-use native.Mathlib.Decide.{ℕ_discrete}
-use borrow.Author.Tests.{eq-eqb, ne_eqb, le-leb, lt-leb, leb-true, eqb-true}
+use borrow.Author.Tests.{eq-eqb, le-leb, lt-leb, leb-true, eqb-true}
 use lib.Dec.{eqb, leb}
-use lib.IntN.{ℤ}
-use lib.Signed.{mag}
-use mir.Syntax.{w32}
-use mir.Val.{to_z, of_z}
-use mir.Facts.{to_z-of_z}
-use Rattle.bits.specs.Bits.{count}
 use Rattle.bits.proofs.Runs.{Bits, lt_or_ge}
-use Rattle.bits.proofs.Marks.{count_same}
 use Rattle.bits.proofs.Tests.{and_left, and_right}
 use Rattle.rules.specs.Bitmap.{mark_of}
 use Rattle.laws.specs.Marks.{here}
@@ -49,23 +40,6 @@ here-one marks i = back (eqb (mark_of marks i) 1)
 pub here-marked : (marks : List ℕ) (i : ℕ) → here marks i ≡ 1 → mark_of marks i ≡ 1
 here-marked marks i h = eqb-true (mark_of marks i) 1 (sym (here-one marks i) ∙ eq-eqb (here marks i) 1 h)
 
--- marks that are 0 or 1 are their own presence
-pub here-same : (marks : List ℕ) → Bits (mark_of marks) → (i : ℕ) → here marks i ≡ mark_of marks i
-unfolding here
-here-same marks b i = same (mark_of marks i) (b i)
-  where
-    zero_of : (x : ℕ) → x < 2 → (x ≡ 1 → ⊥) → 0 ≡ x
-    zero_of x l e = omega arith
-
-    same : (x : ℕ) → x < 2 → cond (eqb x 1) 1 0 ≡ x
-    same x l = elim (ℕ_discrete x 1) [
-      | yes e ↦ ap (λ (t : Bool). cond t 1 0) (eq-eqb x 1 e) ∙ sym e
-      | no e ↦ ap (λ (t : Bool). cond t 1 0) (ne_eqb x 1 e) ∙ zero_of x l e
-    ]
-
-pub count-here : (marks : List ℕ) → Bits (mark_of marks) → (n : ℕ) → count (here marks) 0 n ≡ count (mark_of marks) 0 n
-count-here marks b n = count_same (here marks) (mark_of marks) n (λ i _. here-same marks b i) n (le_refl n)
-
 module _ (c room at marked : ℕ) where
   pub fits_after : at ≤ marked → leb c room && leb c (marked - at) ≡ gather_fits c room at marked
   unfolding gather_fits
@@ -93,10 +67,6 @@ module _ (c room at marked : ℕ) where
   pub fits_so : c ≤ room → at + c ≤ marked → gather_fits c room at marked ≡ true
   unfolding gather_fits
   fits_so h k = ap₂ (λ (a b : Bool). a && b) (le-leb c room h) (le-leb (at + c) marked k)
-
--- a signed number as it is stored
-pub stored : {z : ℤ} → mag z < 2 ^ 31 → to_z w32 (of_z w32 z) ≡ z
-stored {z} f = to_z-of_z {w = w32} {z = z} (record { sfits = f })
 
 -- an answer where the block fits, and where it does not
 pub where_fit : {A : Type 0} (t b : Bool) (x y z : A) → t ≡ true → t ≡ b → x ≡ y → x ≡ cond b y z

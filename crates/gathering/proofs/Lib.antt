@@ -1,3 +1,4 @@
--- Marks as bits, a turn of the loops that gather, and what is gathered.
+-- Marks as bits, a turn of the loops that gather, what is gathered, and a list taken a chunk at a time.
 pub mod Here
 pub mod Gathered
+pub mod Chunks

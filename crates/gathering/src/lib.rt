@@ -4,10 +4,9 @@
 // answer is 0.
 #![tactic(auto)]
 
-ghost use Rattle.std.specs.Prelude.{◌≡◌, cond, ◌+◌, ◌≤◌, eqb, pos, length, get_or};
+ghost use Rattle.std.specs.Prelude.{◌≡◌, cond, ◌+◌, ◌≤◌, eqb, length};
 ghost use Rattle.bits.specs.Bits.{count};
-ghost use Rattle.rules.specs.Bitmap.{value_of};
-ghost use Rattle.gathering.specs.Gather.{here_from, gather_into, gather_fits};
+ghost use Rattle.gathering.specs.Gather.{here_from, gather_list, gather_fits};
 
 // 1 for a present point and 0 for an absent one: how far the place reached moves on.
 fn one(mark: u8) -> usize
@@ -30,72 +29,33 @@ fn fits(c: usize, room: usize, at: usize, marked: usize) -> bool
 }
 
 // The values gathered, where they fit; the answer is how many.
-fn gather_fitting(values: &[u32], marks: &[u8], at: usize, held: &mut [u32]) -> usize
+fn gather_fitting<T: Copy>(values: &[T], marks: &[u8], at: usize, held: &mut [T]) -> usize
     requires { (length values.now ≤ length held.old) × (at + length values.now ≤ length marks.now) }
     ensures value { result ≡ count (here_from marks.now at) 0 (length values.now) }
     ensures held_after { held.new ≡
-        gather_into (here_from marks.now at) (value_of values.now) (length values.now)
-        held.old }
+        gather_list (here_from marks.now at) values.now (length values.now) held.old }
 {
     let mut d: usize = 0;
-    let mut j: usize = 0;
-    while j < values.len() {
+    for j in 0..values.len() {
         held[d] = values[j];
         d += one(marks[at + j]);
-        j += 1;
     }
     d
 }
 
 // Of the values of a block of points, whose marks start at point `at`, those at present points. Answers how many there
 // are.
-pub fn gather(values: &[u32], marks: &[u8], at: usize, held: &mut [u32]) -> usize
+pub fn gather<T: Copy>(values: &[T], marks: &[u8], at: usize, held: &mut [T]) -> usize
     ensures value { result ≡
         cond (gather_fits (length values.now) (length held.old) at (length marks.now))
         (count (here_from marks.now at) 0 (length values.now)) 0 }
     ensures held_after { held.new ≡
         cond (gather_fits (length values.now) (length held.old) at (length marks.now))
-        (gather_into (here_from marks.now at) (value_of values.now) (length values.now)
-        held.old)
+        (gather_list (here_from marks.now at) values.now (length values.now) held.old)
         held.old }
 {
     if fits(values.len(), held.len(), at, marks.len()) {
         return gather_fitting(values, marks, at, held);
-    }
-    0
-}
-
-// The same of signed numbers.
-fn gather_numbers_fitting(numbers: &[i32], marks: &[u8], at: usize, held: &mut [i32]) -> usize
-    requires { (length numbers.now ≤ length held.old) × (at + length numbers.now ≤ length marks.now) }
-    ensures value { result ≡ count (here_from marks.now at) 0 (length numbers.now) }
-    ensures held_after { held.new ≡
-        gather_into (here_from marks.now at) (λ j. get_or numbers.now j (pos 0))
-        (length numbers.now) held.old }
-{
-    let mut d: usize = 0;
-    let mut j: usize = 0;
-    while j < numbers.len() {
-        held[d] = numbers[j];
-        d += one(marks[at + j]);
-        j += 1;
-    }
-    d
-}
-
-// The same of signed numbers.
-pub fn gather_numbers(numbers: &[i32], marks: &[u8], at: usize, held: &mut [i32]) -> usize
-    ensures value { result ≡
-        cond (gather_fits (length numbers.now) (length held.old) at (length marks.now))
-        (count (here_from marks.now at) 0 (length numbers.now)) 0 }
-    ensures held_after { held.new ≡
-        cond (gather_fits (length numbers.now) (length held.old) at (length marks.now))
-        (gather_into (here_from marks.now at) (λ j. get_or numbers.now j (pos 0))
-        (length numbers.now) held.old)
-        held.old }
-{
-    if fits(numbers.len(), held.len(), at, marks.len()) {
-        return gather_numbers_fitting(numbers, marks, at, held);
     }
     0
 }

@@ -1,19 +1,23 @@
 // The Grid Description Section of a message: the grid that it says, of any kind, and refusal 8. All total.
 #![tactic(auto)]
 
-ghost use Rattle.std.specs.Prelude.{◌≡◌, ◌&&◌, cond, eqb, length};
-ghost use Rattle.rules.specs.declared.Found.TheVariants.{Nothing, Given};
+ghost use Rattle.std.specs.Prelude.{◌≡◌, cond, length, map};
+ghost use Rattle.std.specs.Option.{is_some};
 ghost use Rattle.rules.specs.Bounds.{octant_rows};
 ghost use Rattle.rules.specs.Counts.{counts_of};
 ghost use Rattle.rules.specs.Numbers.{octet as the_octet, number, signed_at};
 ghost use Rattle.rules.specs.Columns.{cells_at};
-ghost use Rattle.rules.specs.Layouts.{latlon, thinned, mercator, lambert, gaussian, polar, count_columns, columns};
-ghost use Rattle.rules.specs.Grid.{counts_held, same_counts, start_of, grid_of_cells, the_grid_at, the_gds_bad};
+ghost use Rattle.rules.specs.Table.{any_of};
+ghost use Rattle.rules.specs.Layouts.{latlon, thinned, mercator, lambert, gaussian, polar, kinds, columns};
+ghost use Rattle.rules.specs.Layouts.{count_columns};
+ghost use Rattle.rules.specs.Grid.{counts_held, same_counts, start_of, grid_of_cells, admits, kind_at as the_kind_at};
+ghost use Rattle.rules.specs.Grid.{the_grid_at, the_gds_bad};
+ghost use Rattle.gds.specs.Kinds.{kind_or_first};
 
 use octants::count;
 use octets::{octet, signed_three, three, two};
 use rules::bounds::{GDS_LENGTH, LONG_LENGTH, OCTANT_ROWS, THINNED_LENGTH};
-use rules::{Belts, Cone, Cylinder, Edges, Found, Geometry, Grid, Octant, Part, Plane, Start};
+use rules::{Belts, Cone, Cylinder, Edges, Geometry, Grid, Octant, Part, Plane, Start};
 
 // Octets 18 to 27 of the GDS at a place.
 fn edges_at(s: &[u8], g: usize) -> Edges
@@ -139,34 +143,32 @@ fn counts_are(s: &[u8], g: usize, start: Start) -> bool
         same_counts (counts_held 33 octant_rows (cells_at (count_columns 33 octant_rows) s.now g))
         (counts_of start) }
 {
-    let mut same = true;
-    let mut i = 0u32;
-    let mut k = 33u8;
-    while i < OCTANT_ROWS {
-        let held = two(s, g, k) as u32;
-        let meant = count(start, i);
-        same = same & (held == meant);
-        i += 1;
-        k += 2;
+    for i in 0..OCTANT_ROWS {
+        let k = 33 + 2 * i;
+        if two(s, g, k as u8) as u32 != count(start, i) {
+            return false;
+        }
     }
-    same
+    true
 }
 
 // At which end an octant of these counts begins.
+#[tactic(auto, using(crate::proofs::Laws::octants_long), unfolding(rules::specs::Grid::start_of))]
 fn start_at(s: &[u8], g: usize) -> Start
     ensures { result ≡
         start_of (counts_held 33 octant_rows (cells_at (count_columns 33 octant_rows) s.now g)) }
 {
     if counts_are(s, g, Start::Equator) {
-        return Start::Equator;
+        Start::Equator
+    } else if counts_are(s, g, Start::Pole) {
+        Start::Pole
+    } else {
+        Start::Neither
     }
-    if counts_are(s, g, Start::Pole) {
-        return Start::Pole;
-    }
-    Start::Neither
 }
 
 // The grid of a section of a latitude/longitude grid.
+#[tactic(auto, unfolding(rules::specs::Grid::grid_of_cells, rules::specs::Columns::cells_at))]
 fn latlon_at(s: &[u8], g: usize) -> Grid
     ensures { result ≡ grid_of_cells latlon (cells_at (columns latlon) s.now g) }
 {
@@ -174,6 +176,7 @@ fn latlon_at(s: &[u8], g: usize) -> Grid
 }
 
 // Of a thinned octant.
+#[tactic(auto, unfolding(rules::specs::Grid::grid_of_cells, rules::specs::Columns::cells_at))]
 fn thinned_at(s: &[u8], g: usize) -> Grid
     ensures { result ≡ grid_of_cells thinned (cells_at (columns thinned) s.now g) }
 {
@@ -185,6 +188,7 @@ fn thinned_at(s: &[u8], g: usize) -> Grid
 }
 
 // Of a Mercator grid.
+#[tactic(auto, unfolding(rules::specs::Grid::grid_of_cells, rules::specs::Columns::cells_at))]
 fn mercator_at(s: &[u8], g: usize) -> Grid
     ensures { result ≡ grid_of_cells mercator (cells_at (columns mercator) s.now g) }
 {
@@ -192,6 +196,7 @@ fn mercator_at(s: &[u8], g: usize) -> Grid
 }
 
 // Of a Lambert grid.
+#[tactic(auto, unfolding(rules::specs::Grid::grid_of_cells, rules::specs::Columns::cells_at))]
 fn lambert_at(s: &[u8], g: usize) -> Grid
     ensures { result ≡ grid_of_cells lambert (cells_at (columns lambert) s.now g) }
 {
@@ -199,6 +204,7 @@ fn lambert_at(s: &[u8], g: usize) -> Grid
 }
 
 // Of a Gaussian grid.
+#[tactic(auto, unfolding(rules::specs::Grid::grid_of_cells, rules::specs::Columns::cells_at))]
 fn gaussian_at(s: &[u8], g: usize) -> Grid
     ensures { result ≡ grid_of_cells gaussian (cells_at (columns gaussian) s.now g) }
 {
@@ -206,67 +212,70 @@ fn gaussian_at(s: &[u8], g: usize) -> Grid
 }
 
 // Of a polar stereographic grid.
+#[tactic(auto, unfolding(rules::specs::Grid::grid_of_cells, rules::specs::Columns::cells_at))]
 fn polar_at(s: &[u8], g: usize) -> Grid
     ensures { result ≡ grid_of_cells polar (cells_at (columns polar) s.now g) }
 {
     grid_with(s, g, Geometry::Polar(plane_at(s, g)))
 }
 
-// Whether the length and octets 4 to 6 of a section are those of a kind.
-fn admitted(s: &[u8], p: Part, len: u32, five: u8, six: u8) -> bool
-    ensures { result ≡
-        (eqb p.len len
-        && (eqb (the_octet s.now p.start 4) 0
-        && (eqb (the_octet s.now p.start 5) five && eqb (the_octet s.now p.start 6) six))) }
-{
-    let g = p.start as usize;
-    (p.len == len) & ((octet(s, g, 4) == 0) & ((octet(s, g, 5) == five) & (octet(s, g, 6) == six)))
+// The kinds of sections.
+#[derive(Clone, Copy)]
+enum Kind {
+    LatLon,
+    Thinned,
+    Mercator,
+    Lambert,
+    Gaussian,
+    Polar,
 }
 
-// The grid of a section, whatever its octets are.
+// The kind whose length and octets 4 to 6 a section has, if there is one.
+#[tactic(auto, unfolding(rules::specs::Grid::kind_at, rules::specs::Table::any_of, rules::specs::Table::or_all,),)]
+fn kind_at(s: &[u8], p: Part) -> Option<Kind>
+    ensures admitted { is_some result ≡ any_of (map (admits s.now p) kinds) }
+    ensures first { the_kind_at s.now p ≡ kind_or_first result }
+{
+    let g = p.start as usize;
+    match (p.len, octet(s, g, 4), octet(s, g, 5), octet(s, g, 6)) {
+        (GDS_LENGTH, 0, 255, 0) => Some(Kind::LatLon),
+        (THINNED_LENGTH, 0, 33, 0) => Some(Kind::Thinned),
+        (LONG_LENGTH, 0, 255, 1) => Some(Kind::Mercator),
+        (LONG_LENGTH, 0, 255, 3) => Some(Kind::Lambert),
+        (GDS_LENGTH, 0, 255, 4) => Some(Kind::Gaussian),
+        (GDS_LENGTH, 0, 255, 5) => Some(Kind::Polar),
+        _ => None,
+    }
+}
+
+// The grid of a section, whatever its octets are: of no kind, it is read as a latitude/longitude grid.
+#[tactic(auto, unfolding(rules::specs::Grid::the_grid_at))]
 fn grid_at(s: &[u8], p: Part) -> Grid
     ensures { result ≡ the_grid_at s.now p }
 {
     let g = p.start as usize;
-    if admitted(s, p, GDS_LENGTH, 255, 0) {
-        return latlon_at(s, g);
+    match kind_at(s, p) {
+        Some(Kind::LatLon) => latlon_at(s, g),
+        Some(Kind::Thinned) => thinned_at(s, g),
+        Some(Kind::Mercator) => mercator_at(s, g),
+        Some(Kind::Lambert) => lambert_at(s, g),
+        Some(Kind::Gaussian) => gaussian_at(s, g),
+        Some(Kind::Polar) => polar_at(s, g),
+        None => latlon_at(s, g),
     }
-    if admitted(s, p, THINNED_LENGTH, 33, 0) {
-        return thinned_at(s, g);
-    }
-    if admitted(s, p, LONG_LENGTH, 255, 1) {
-        return mercator_at(s, g);
-    }
-    if admitted(s, p, LONG_LENGTH, 255, 3) {
-        return lambert_at(s, g);
-    }
-    if admitted(s, p, GDS_LENGTH, 255, 4) {
-        return gaussian_at(s, g);
-    }
-    if admitted(s, p, GDS_LENGTH, 255, 5) {
-        return polar_at(s, g);
-    }
-    latlon_at(s, g)
 }
 
 // The grid of the section at p, where there is one.
-pub fn grid_in(s: &[u8], there: bool, p: Part) -> Found
-    ensures { result ≡ cond there (Given (the_grid_at s.now p)) Nothing }
+pub fn grid_in(s: &[u8], there: bool, p: Part) -> Option<Grid>
+    ensures { result ≡ cond there (Some (the_grid_at s.now p)) None }
 {
-    if there {
-        return Found::Given(grid_at(s, p));
-    }
-    Found::Nothing
+    if there { Some(grid_at(s, p)) } else { None }
 }
 
 // Refusal 8 of the section at p: its length, or one of octets 4 to 6.
+#[tactic(auto, unfolding(rules::specs::Grid::the_gds_bad))]
 pub fn gds_bad(s: &[u8], p: Part) -> bool
     ensures { result ≡ the_gds_bad s.now p }
 {
-    !(admitted(s, p, GDS_LENGTH, 255, 0)
-        | admitted(s, p, THINNED_LENGTH, 33, 0)
-        | admitted(s, p, LONG_LENGTH, 255, 1)
-        | admitted(s, p, LONG_LENGTH, 255, 3)
-        | admitted(s, p, GDS_LENGTH, 255, 4)
-        | admitted(s, p, GDS_LENGTH, 255, 5))
+    kind_at(s, p).is_none()
 }

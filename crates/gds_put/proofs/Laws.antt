@@ -1,25 +1,24 @@
--- A grid section out of its groups of fields; the counts, row by row; and what is put, by cases.
-use mathlib.Core.Path.{◌≡◌, refl, sym, ap, ap₂, ◌∙◌, subst}
-use mathlib.Core.Bool.{Bool, true, false, not, cond, ◌&&◌}
+-- A grid section out of its groups of fields; the counts, row by row; and what its octets hold, by cases.
+use Rattle.std.specs.Prelude.{Option, Some}
+use mathlib.Core.Path.{◌≡◌, refl, sym, ap, ◌∙◌, subst}
+use mathlib.Core.Bool.{true, false}
 use mathlib.Core.List.{List, [], ◌∷◌, ◌++◌}
 use Prim.Native.Nat.{ℕ, zero, suc, ◌+◌, ◌-◌, ◌^◌, ◌≤◌, ◌<◌}
 use native.Mathlib.Nat.{add-zero}
 use native.Mathlib.Numerals.{add-one}
 use native.Mathlib.Omega.{arith}
-use borrow.Author.Tests.{le-leb, lt-leb, leb-true, leb-false, ltb-false, not-true}
-use lib.Dec.{ltb, leb}
+use borrow.Author.Tests.{ltb-false}
+use lib.Dec.{ltb}
 use lib.ListN.{length, get_or}
 use Rattle.bits.specs.Bits.{bit_of, run, runs, placed}
 use Rattle.bits.specs.Tables.{tab}
 use Rattle.bits.proofs.Tests.{both}
-use Rattle.bits.proofs.Placing.{placed-none}
 use Rattle.rules.specs.declared.{Signed.Signed, Start.Start, Start.TheVariants.Equator, Start.TheVariants.Pole}
 use Rattle.rules.specs.declared.{Start.TheVariants.Neither, Edges.Edges, Octant.Octant, Cylinder.Cylinder, Belts.Belts}
 use Rattle.rules.specs.declared.{Plane.Plane, Cone.Cone, Geometry.Geometry, Geometry.TheVariants.LatLon}
 use Rattle.rules.specs.declared.{Geometry.TheVariants.Thinned, Geometry.TheVariants.Mercator}
 use Rattle.rules.specs.declared.{Geometry.TheVariants.Lambert, Geometry.TheVariants.Gaussian}
-use Rattle.rules.specs.declared.{Geometry.TheVariants.Polar, Grid.Grid, Found.Found}
-use Rattle.rules.specs.declared.{Found.TheVariants.Nothing, Found.TheVariants.Given}
+use Rattle.rules.specs.declared.{Geometry.TheVariants.Polar, Grid.Grid}
 use Rattle.rules.specs.Bounds.{thinned_length, octant_rows, latitude_most, longitude_most}
 use Rattle.rules.specs.Counts.{counts_of, the_from_equator}
 use Rattle.rules.specs.Numbers.{Field, field, laid, sign, beyond}
@@ -27,7 +26,7 @@ use Rattle.rules.specs.Table.{any_of}
 use Rattle.rules.specs.Columns.{Sort, carried, needed, distance, side, latitude, longitude, reserved, Column, Cell, Cells}
 use Rattle.rules.specs.Columns.{all_ones, cell_faults, cells_fields, cells_faults}
 use Rattle.rules.specs.Layouts.{count_columns, columns, length_by}
-use Rattle.rules.specs.Grid.{count_cells, kind_of, cells_by, cells_of, gds_length_of, fields_by, grid_fields, gds_of, grid_faults}
+use Rattle.rules.specs.Grid.{count_cells, kind_of, cells_by, cells_of, fields_by, grid_faults}
 use Rattle.rules.specs.Writing.{gds_for}
 use Rattle.laws.specs.Signs.{SignFree}
 use Rattle.laws.proofs.Fields.{widths, laid-length}
@@ -39,7 +38,7 @@ use Rattle.laws.proofs.Whole.{within, beyond-no}
 use Rattle.puts.specs.Put.{the_put_number}
 use Rattle.puts.proofs.Laying.{laid_both, Laid, put, kept-long, two-placed}
 use Rattle.gds_put.specs.Section.{top_fields, front_fields, edges_fields, count_fields, cell_unheld}
-use Rattle.gds_put.specs.Section.{cells_unheld, unheld_by, the_grid_unheld, the_found_holds, gds_fits, the_gds_put}
+use Rattle.gds_put.specs.Section.{cells_unheld, unheld_by, the_grid_unheld}
 
 -- a group of fields put after those before it
 pub after : (d : List ℕ) (at k : ℕ) (fs gs : List Field) (o o' : List ℕ) → o ≡ placed d at (laid fs [])
@@ -196,80 +195,14 @@ module _ (g : Grid) where
       )
 
 -- what a grid's own geometry says of its section
-module _ (g : Grid) (x : Geometry) (e : g.geometry ≡ x) where
-  pub unheld-by : any_of (the_grid_unheld g) ≡ any_of (unheld_by g x)
-  unfolding the_grid_unheld
-  unheld-by = ap (λ (y : Geometry). any_of (unheld_by g y)) e
+pub kind_unheld : (g : Grid) (x : Geometry) → g.geometry ≡ x → any_of (the_grid_unheld g) ≡ any_of (unheld_by g x)
+unfolding the_grid_unheld
+kind_unheld g x e = ap (λ (y : Geometry). any_of (unheld_by g y)) e
 
-  pub kind-long : (at n : ℕ) → at + gds_length_of g ≤ n → at + length_by (kind_of x) ≤ n
-  kind-long at n h = subst (λ (z : Geometry). at + length_by (kind_of z) ≤ n) e h
-
-  pub kind-placed : (d o : List ℕ) (at : ℕ) → o ≡ placed d at (laid (fields_by g x) []) → o ≡ placed d at (gds_of g)
-  unfolding gds_of grid_fields
-  kind-placed d o at h = h ∙ ap (λ (z : Geometry). placed d at (laid (fields_by g z) [])) (sym e)
-
--- room from a place on
-pub room-none : (n at len : ℕ) → n < at → false ≡ leb (at + len) n
-room-none n at len h = sym (lt-leb (at + len) n (omega (arith, h)))
-
-pub room-left : (n at len : ℕ) → at ≤ n → leb len (n - at) ≡ leb (at + len) n
-room-left n at len h = go (leb len (n - at)) refl
-  where
-    go : (t : Bool) → leb len (n - at) ≡ t → t ≡ leb (at + len) n
-    go true e = sym (le-leb (at + len) n (omega (arith, h, leb-true len (n - at) e)))
-    go false e = sym (lt-leb (at + len) n (omega (arith, h, leb-false len (n - at) e)))
-
--- none is given, and one is
-pub holds-none : (f : Found) → f ≡ Nothing → true ≡ the_found_holds f
-unfolding the_found_holds
-holds-none f e = sym (ap the_found_holds e)
-
-pub holds-given : (f : Found) (g : Grid) → f ≡ Given g → (b : Bool) → b ≡ any_of (the_grid_unheld g) → not b ≡ the_found_holds f
-unfolding the_found_holds
-holds-given f g e b h = ap not h ∙ sym (ap the_found_holds e)
-
-pub room-given : (f : Found) (g : Grid) → f ≡ Given g → (n : ℕ) → n ≡ length_by (kind_of g.geometry)
+-- how many octets the section of a grid that is given has
+pub room-given : (f : Option Grid) (g : Grid) → f ≡ Some g → (n : ℕ) → n ≡ length_by (kind_of g.geometry)
     → n ≡ length (gds_for f)
-room-given f g e n h = h ∙ sym (gds-length g) ∙ sym (ap (λ (x : Found). length (gds_for x)) e)
-
--- what is put: where the section fits, and where it does not
-module _ (d : List ℕ) (at : ℕ) (f : Found) (a b : Bool) (ea : a ≡ the_found_holds f)
-    (eb : b ≡ leb (at + length (gds_for f)) (length d)) where
-  both-fit : (a && b) ≡ gds_fits d at f
-  unfolding gds_fits
-  both-fit = ap₂ (λ (x y : Bool). x && y) ea eb
-
-  pub unfit : (a && b) ≡ false → (false ≡ gds_fits d at f) × (d ≡ the_gds_put d at f)
-  unfolding the_gds_put
-  unfit h =
-      let z : gds_fits d at f ≡ false = sym both-fit ∙ h in
-      (sym z, sym (ap (λ (t : Bool). cond t (placed d at (gds_for f)) d) z))
-
-  pub fit : (a && b) ≡ true → (o : List ℕ) → o ≡ placed d at (gds_for f)
-      → (true ≡ gds_fits d at f) × (o ≡ the_gds_put d at f)
-  unfolding the_gds_put
-  fit h o e =
-      let z : gds_fits d at f ≡ true = sym both-fit ∙ h in
-      (sym z, e ∙ sym (ap (λ (t : Bool). cond t (placed d at (gds_for f)) d) z))
-
-  -- so that a grid that is given may be put
-  pub may : (a && b) ≡ true → (g : Grid) → f ≡ Given g
-      → (at + gds_length_of g ≤ length d) × (any_of (the_grid_unheld g) ≡ false)
-  unfolding the_found_holds
-  may h g e =
-      let w = both a b h in
-      let l : leb (at + length (gds_for f)) (length d) ≡ true = sym eb ∙ w.1 in
-      let n : length (gds_for f) ≡ gds_length_of g = ap (λ (x : Found). length (gds_for x)) e ∙ gds-length g in (
-        subst (λ (x : ℕ). at + x ≤ length d) n (leb-true _ _ l),
-        not-true _ (sym (ap the_found_holds e) ∙ sym ea ∙ w.0),
-      )
-
-pub nothing_placed : (f : Found) (d : List ℕ) (at : ℕ) → f ≡ Nothing → d ≡ placed d at (gds_for f)
-nothing_placed f d at e = sym (ap (λ (x : Found). placed d at (gds_for x)) e ∙ placed-none d at)
-
-pub given-placed : (f : Found) (g : Grid) (d o : List ℕ) (at : ℕ) → f ≡ Given g → o ≡ placed d at (gds_of g)
-    → o ≡ placed d at (gds_for f)
-given-placed f g d o at e h = h ∙ sym (ap (λ (x : Found). placed d at (gds_for x)) e)
+room-given f g e n h = h ∙ sym (gds-length g) ∙ sym (ap (λ (x : Option Grid). length (gds_for x)) e)
 
 -- of a grid that row 9 passes its octets hold every cell
 free : (c : ℕ) (z : Signed) → SignFree c z → beyond (sign c - 1) z.value ≡ false

@@ -1,8 +1,7 @@
 -- A grid section put into lent octets: its fields in groups, where it fits, and what it leaves.
-use Rattle.std.specs.Prelude.{ℕ, zero, suc, ◌+◌, ◌-◌, Bool, true, not, ◌&&◌, cond, List, [], ◌∷◌, ◌++◌, ltb, leb, length, get_or}
+use Rattle.std.specs.Prelude.{ℕ, zero, suc, ◌+◌, ◌-◌, Bool, true, not, ◌&&◌, cond, List, [], ◌∷◌, ◌++◌, ltb, leb, length, get_or, None, Option, Some}
 use Rattle.bits.specs.Bits.{placed}
-use Rattle.rules.specs.declared.{Signed.Signed, Start.Start, Geometry.Geometry, Grid.Grid, Found.Found}
-use Rattle.rules.specs.declared.{Found.TheVariants.Nothing, Found.TheVariants.Given}
+use Rattle.rules.specs.declared.{Signed.Signed, Start.Start, Geometry.Geometry, Grid.Grid}
 use Rattle.rules.specs.Counts.{counts_of}
 use Rattle.rules.specs.Numbers.{Field, field, sign, signed_field, beyond}
 use Rattle.rules.specs.Table.{any_of}
@@ -76,13 +75,13 @@ unfoldable pub the_grid_unheld : Grid → List Bool
 the_grid_unheld g = unheld_by g g.geometry
 
 -- whether the octets of the grid that is given hold it
-unfoldable pub the_found_holds : Found → Bool
-the_found_holds Nothing = true
-the_found_holds (Given g) = not (any_of (the_grid_unheld g))
+unfoldable pub the_found_holds : Option Grid → Bool
+the_found_holds None = true
+the_found_holds (Some g) = not (any_of (the_grid_unheld g))
 
 -- a section that does not fit changes nothing
-unfoldable pub gds_fits : List ℕ → ℕ → Found → Bool
+unfoldable pub gds_fits : List ℕ → ℕ → Option Grid → Bool
 gds_fits out at f = the_found_holds f && leb (at + length (gds_for f)) (length out)
 
-unfoldable pub the_gds_put : List ℕ → ℕ → Found → List ℕ
+unfoldable pub the_gds_put : List ℕ → ℕ → Option Grid → List ℕ
 the_gds_put out at f = cond (gds_fits out at f) (placed out at (gds_for f)) out

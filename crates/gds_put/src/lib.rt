@@ -21,7 +21,7 @@ ghost use Rattle.gds_put.specs.Section.{the_gds_put};
 use octants::count;
 use puts::{put_four, put_octet, put_signed_three, put_three, put_two};
 use rules::bounds::{DISTANCE_MOST, GDS_LENGTH, LONG_LENGTH, OCTANT_ROWS, THINNED_LENGTH};
-use rules::{Belts, Cone, Cylinder, Edges, Found, Geometry, Grid, Octant, Plane, Signed, Start};
+use rules::{Belts, Cone, Cylinder, Edges, Geometry, Grid, Octant, Plane, Signed, Start};
 
 // Octets 1 to 6 of the GDS at place g.
 fn put_top(out: &mut [u8], g: usize, len: u32, five: u8, six: u8)
@@ -36,30 +36,31 @@ fn put_top(out: &mut [u8], g: usize, len: u32, five: u8, six: u8)
 }
 
 // Octets 7 to 17.
-fn put_front(out: &mut [u8], g: usize, ni: u16, nj: u16, la1: Signed, lo1: Signed, flags: u8)
+fn put_front(out: &mut [u8], g: usize, grid: Grid)
     requires g_in_bounds { g + 17 ≤ length out.old }
-    requires sign_free { SignFree 3 la1 × SignFree 3 lo1 }
+    requires sign_free { SignFree 3 grid.la1 × SignFree 3 grid.lo1 }
     ensures { out.new ≡
-        placed out.old (g + 6) (laid (front_fields ni nj la1 lo1 flags) []) }
+        placed out.old (g + 6)
+        (laid (front_fields grid.ni grid.nj grid.la1 grid.lo1 grid.flags) []) }
 {
-    put_two(out, g, 7, ni);
-    put_two(out, g, 9, nj);
-    put_signed_three(out, g, 11, la1);
-    put_signed_three(out, g, 14, lo1);
-    put_octet(out, g, 17, flags);
+    put_two(out, g, 7, grid.ni);
+    put_two(out, g, 9, grid.nj);
+    put_signed_three(out, g, 11, grid.la1);
+    put_signed_three(out, g, 14, grid.lo1);
+    put_octet(out, g, 17, grid.flags);
 }
 
 // Octets 18 to 32 of a latitude/longitude grid, and of a Gaussian one with N in the place of Dj.
-fn put_edges(out: &mut [u8], g: usize, la2: Signed, lo2: Signed, di: u16, dj: u16, scan: u8)
+fn put_edges(out: &mut [u8], g: usize, x: Edges, scan: u8)
     requires g_in_bounds { g + 32 ≤ length out.old }
-    requires sign_free { SignFree 3 la2 × SignFree 3 lo2 }
+    requires sign_free { SignFree 3 x.la2 × SignFree 3 x.lo2 }
     ensures { out.new ≡
-        placed out.old (g + 17) (laid (edges_fields la2 lo2 di dj scan) []) }
+        placed out.old (g + 17) (laid (edges_fields x.la2 x.lo2 x.di x.dj scan) []) }
 {
-    put_signed_three(out, g, 18, la2);
-    put_signed_three(out, g, 21, lo2);
-    put_two(out, g, 24, di);
-    put_two(out, g, 26, dj);
+    put_signed_three(out, g, 18, x.la2);
+    put_signed_three(out, g, 21, x.lo2);
+    put_two(out, g, 24, x.di);
+    put_two(out, g, 26, x.dj);
     put_octet(out, g, 28, scan);
     put_four(out, g, 29, 0);
 }
@@ -69,40 +70,29 @@ fn put_counts(out: &mut [u8], g: usize, start: Start)
     requires { g + thinned_length ≤ length out.old }
     ensures { out.new ≡ placed out.old (g + 32) (laid (count_fields start octant_rows) []) }
 {
-    let mut i = 0u32;
-    let mut k = 33u8;
-    while i < OCTANT_ROWS {
+    for i in 0..OCTANT_ROWS {
+        let k = 33 + 2 * i;
         let c = count(start, i);
-        put_two(out, g, k, c as u16);
-        i += 1;
-        k += 2;
+        put_two(out, g, k as u8, c as u16);
     }
 }
 
 // Octets 18 to 34 of a Mercator grid.
-fn put_cylinder(
-    out: &mut [u8],
-    g: usize,
-    la2: Signed,
-    lo2: Signed,
-    latin: Signed,
-    scan: u8,
-    di: u32,
-    dj: u32,
-)
+fn put_cylinder(out: &mut [u8], g: usize, x: Cylinder, scan: u8)
     requires g_in_bounds { g + 34 ≤ length out.old }
-    requires sign_free { SignFree 3 la2 × SignFree 3 lo2 × SignFree 3 latin }
-    requires di_bound { (di < 2 ^ 24) × (dj < 2 ^ 24) }
+    requires sign_free { SignFree 3 x.la2 × SignFree 3 x.lo2 × SignFree 3 x.latin }
+    requires di_bound { (x.di < 2 ^ 24) × (x.dj < 2 ^ 24) }
     ensures { out.new ≡
-        placed out.old (g + 17) (laid (cylinder_fields la2 lo2 latin scan di dj) []) }
+        placed out.old (g + 17)
+        (laid (cylinder_fields x.la2 x.lo2 x.latin scan x.di x.dj) []) }
 {
-    put_signed_three(out, g, 18, la2);
-    put_signed_three(out, g, 21, lo2);
-    put_signed_three(out, g, 24, latin);
+    put_signed_three(out, g, 18, x.la2);
+    put_signed_three(out, g, 21, x.lo2);
+    put_signed_three(out, g, 24, x.latin);
     put_octet(out, g, 27, 0);
     put_octet(out, g, 28, scan);
-    put_three(out, g, 29, di);
-    put_three(out, g, 32, dj);
+    put_three(out, g, 29, x.di);
+    put_three(out, g, 32, x.dj);
 }
 
 // Octets 35 to 42 of a Mercator grid, reserved.
@@ -115,30 +105,30 @@ fn put_eight(out: &mut [u8], g: usize)
 }
 
 // Octets 18 to 28 of a Lambert or polar stereographic grid.
-fn put_plane(out: &mut [u8], g: usize, lov: Signed, dx: u32, dy: u32, centre: u8, scan: u8)
+fn put_plane(out: &mut [u8], g: usize, q: Plane, scan: u8)
     requires g_in_bounds { g + 28 ≤ length out.old }
-    requires sign_free { SignFree 3 lov × (dx < 2 ^ 24) × (dy < 2 ^ 24) }
+    requires sign_free { SignFree 3 q.lov × (q.dx < 2 ^ 24) × (q.dy < 2 ^ 24) }
     ensures { out.new ≡
-        placed out.old (g + 17) (laid (plane_fields lov dx dy centre scan) []) }
+        placed out.old (g + 17) (laid (plane_fields q.lov q.dx q.dy q.centre scan) []) }
 {
-    put_signed_three(out, g, 18, lov);
-    put_three(out, g, 21, dx);
-    put_three(out, g, 24, dy);
-    put_octet(out, g, 27, centre);
+    put_signed_three(out, g, 18, q.lov);
+    put_three(out, g, 21, q.dx);
+    put_three(out, g, 24, q.dy);
+    put_octet(out, g, 27, q.centre);
     put_octet(out, g, 28, scan);
 }
 
 // Octets 29 to 42 of a Lambert grid.
-fn put_cone(out: &mut [u8], g: usize, latin1: Signed, latin2: Signed, la: Signed, lo: Signed)
+fn put_cone(out: &mut [u8], g: usize, x: Cone)
     requires long_length_in_bounds { g + long_length ≤ length out.old }
-    requires sign_free { SignFree 3 latin1 × SignFree 3 latin2 × SignFree 3 la × SignFree 3 lo }
+    requires sign_free { SignFree 3 x.latin1 × SignFree 3 x.latin2 × SignFree 3 x.pole_la × SignFree 3 x.pole_lo }
     ensures { out.new ≡
-        placed out.old (g + 28) (laid (cone_fields latin1 latin2 la lo) []) }
+        placed out.old (g + 28) (laid (cone_fields x.latin1 x.latin2 x.pole_la x.pole_lo) []) }
 {
-    put_signed_three(out, g, 29, latin1);
-    put_signed_three(out, g, 32, latin2);
-    put_signed_three(out, g, 35, la);
-    put_signed_three(out, g, 38, lo);
+    put_signed_three(out, g, 29, x.latin1);
+    put_signed_three(out, g, 32, x.latin2);
+    put_signed_three(out, g, 35, x.pole_la);
+    put_signed_three(out, g, 38, x.pole_lo);
     put_two(out, g, 41, 0);
 }
 
@@ -157,8 +147,8 @@ fn put_latlon(out: &mut [u8], g: usize, grid: Grid, x: Edges)
     ensures { out.new ≡ placed out.old g (laid (fields_by grid (LatLon x)) []) }
 {
     put_top(out, g, GDS_LENGTH, 255, 0);
-    put_front(out, g, grid.ni, grid.nj, grid.la1, grid.lo1, grid.flags);
-    put_edges(out, g, x.la2, x.lo2, x.di, x.dj, grid.scan);
+    put_front(out, g, grid);
+    put_edges(out, g, x, grid.scan);
 }
 
 // The GDS of a thinned octant.
@@ -167,12 +157,10 @@ fn put_thinned(out: &mut [u8], g: usize, grid: Grid, o: Octant)
     requires o_value { any_of (unheld_by grid (Thinned o)) ≡ false }
     ensures { out.new ≡ placed out.old g (laid (fields_by grid (Thinned o)) []) }
 {
-    let x = o.edges;
-    let start = o.start;
     put_top(out, g, THINNED_LENGTH, 33, 0);
-    put_front(out, g, grid.ni, grid.nj, grid.la1, grid.lo1, grid.flags);
-    put_edges(out, g, x.la2, x.lo2, x.di, x.dj, grid.scan);
-    put_counts(out, g, start);
+    put_front(out, g, grid);
+    put_edges(out, g, o.edges, grid.scan);
+    put_counts(out, g, o.start);
 }
 
 // The GDS of a Mercator grid.
@@ -182,8 +170,8 @@ fn put_mercator(out: &mut [u8], g: usize, grid: Grid, x: Cylinder)
     ensures { out.new ≡ placed out.old g (laid (fields_by grid (Mercator x)) []) }
 {
     put_top(out, g, LONG_LENGTH, 255, 1);
-    put_front(out, g, grid.ni, grid.nj, grid.la1, grid.lo1, grid.flags);
-    put_cylinder(out, g, x.la2, x.lo2, x.latin, grid.scan, x.di, x.dj);
+    put_front(out, g, grid);
+    put_cylinder(out, g, x, grid.scan);
     put_eight(out, g);
 }
 
@@ -193,11 +181,10 @@ fn put_lambert(out: &mut [u8], g: usize, grid: Grid, x: Cone)
     requires x_value { any_of (unheld_by grid (Lambert x)) ≡ false }
     ensures { out.new ≡ placed out.old g (laid (fields_by grid (Lambert x)) []) }
 {
-    let q = x.plane;
     put_top(out, g, LONG_LENGTH, 255, 3);
-    put_front(out, g, grid.ni, grid.nj, grid.la1, grid.lo1, grid.flags);
-    put_plane(out, g, q.lov, q.dx, q.dy, q.centre, grid.scan);
-    put_cone(out, g, x.latin1, x.latin2, x.pole_la, x.pole_lo);
+    put_front(out, g, grid);
+    put_plane(out, g, x.plane, grid.scan);
+    put_cone(out, g, x);
 }
 
 // The GDS of a Gaussian grid.
@@ -207,8 +194,14 @@ fn put_gaussian(out: &mut [u8], g: usize, grid: Grid, x: Belts)
     ensures { out.new ≡ placed out.old g (laid (fields_by grid (Gaussian x)) []) }
 {
     put_top(out, g, GDS_LENGTH, 255, 4);
-    put_front(out, g, grid.ni, grid.nj, grid.la1, grid.lo1, grid.flags);
-    put_edges(out, g, x.la2, x.lo2, x.di, x.circles, grid.scan);
+    put_front(out, g, grid);
+    let edges = Edges {
+        la2: x.la2,
+        lo2: x.lo2,
+        di: x.di,
+        dj: x.circles,
+    };
+    put_edges(out, g, edges, grid.scan);
 }
 
 // The GDS of a polar stereographic grid.
@@ -218,19 +211,19 @@ fn put_polar(out: &mut [u8], g: usize, grid: Grid, x: Plane)
     ensures { out.new ≡ placed out.old g (laid (fields_by grid (Polar x)) []) }
 {
     put_top(out, g, GDS_LENGTH, 255, 5);
-    put_front(out, g, grid.ni, grid.nj, grid.la1, grid.lo1, grid.flags);
-    put_plane(out, g, x.lov, x.dx, x.dy, x.centre, grid.scan);
+    put_front(out, g, grid);
+    put_plane(out, g, x, grid.scan);
     put_reserved(out, g);
 }
 
 // The GDS of a grid.
+#[tactic(auto, unfolding(rules::specs::Grid::gds_of, rules::specs::Grid::grid_fields))]
 fn put_kind(out: &mut [u8], g: usize, grid: Grid)
     requires grid_in_bounds { g + gds_length_of grid ≤ length out.old }
     requires grid_value { any_of (the_grid_unheld grid) ≡ false }
     ensures { out.new ≡ placed out.old g (gds_of grid) }
 {
-    let a = grid.geometry;
-    match a {
+    match grid.geometry {
         Geometry::LatLon(x) => put_latlon(out, g, grid, x),
         Geometry::Thinned(o) => put_thinned(out, g, grid, o),
         Geometry::Mercator(x) => put_mercator(out, g, grid, x),
@@ -255,6 +248,7 @@ fn too_far(d: u32) -> bool
 }
 
 // Of a grid with two corners, whether the octets of one do not hold it.
+#[tactic(auto, unfolding(rules::specs::Table::any_of, rules::specs::Table::or_all))]
 fn corners_unheld(g: Grid, la2: Signed, lo2: Signed) -> bool
     ensures { result ≡
         any_of
@@ -268,6 +262,7 @@ fn corners_unheld(g: Grid, la2: Signed, lo2: Signed) -> bool
 }
 
 // Of a grid on a plane of projection, whether the octets of its corner or of the plane do not hold them.
+#[tactic(auto, unfolding(rules::specs::Table::any_of, rules::specs::Table::or_all))]
 fn plane_unheld(g: Grid, q: Plane) -> bool
     ensures { result ≡
         any_of
@@ -292,8 +287,7 @@ fn mercator_unheld(g: Grid, x: Cylinder) -> bool
 fn lambert_unheld(g: Grid, x: Cone) -> bool
     ensures { result ≡ any_of (unheld_by g (Lambert x)) }
 {
-    let q = x.plane;
-    plane_unheld(g, q)
+    plane_unheld(g, x.plane)
         | sign_taken(x.latin1)
         | sign_taken(x.latin2)
         | sign_taken(x.pole_la)
@@ -304,13 +298,9 @@ fn lambert_unheld(g: Grid, x: Cone) -> bool
 fn grid_unheld(g: Grid) -> bool
     ensures { result ≡ any_of (the_grid_unheld g) }
 {
-    let a = g.geometry;
-    match a {
+    match g.geometry {
         Geometry::LatLon(x) => corners_unheld(g, x.la2, x.lo2),
-        Geometry::Thinned(o) => {
-            let x = o.edges;
-            corners_unheld(g, x.la2, x.lo2)
-        }
+        Geometry::Thinned(o) => corners_unheld(g, o.edges.la2, o.edges.lo2),
         Geometry::Mercator(x) => mercator_unheld(g, x),
         Geometry::Lambert(x) => lambert_unheld(g, x),
         Geometry::Gaussian(x) => corners_unheld(g, x.la2, x.lo2),
@@ -319,13 +309,11 @@ fn grid_unheld(g: Grid) -> bool
 }
 
 // Whether the octets of the grid that is given hold it.
-fn found_holds(grid: Found) -> bool
+#[tactic(auto, unfolding(crate::specs::Section::the_found_holds))]
+fn found_holds(grid: Option<Grid>) -> bool
     ensures { result ≡ the_found_holds grid }
 {
-    match grid {
-        Found::Nothing => true,
-        Found::Given(g) => !grid_unheld(g),
-    }
+    grid.is_none_or(|g| !grid_unheld(g))
 }
 
 // How many octets the GDS of a kind has.
@@ -343,15 +331,12 @@ fn kind_room(a: Geometry) -> usize
 }
 
 // How many octets the GDS of a grid takes; none where no grid is given.
-pub fn gds_room(grid: Found) -> usize
+pub fn gds_room(grid: Option<Grid>) -> usize
     ensures { result ≡ length (gds_for grid) }
 {
     match grid {
-        Found::Nothing => 0,
-        Found::Given(g) => {
-            let a = g.geometry;
-            kind_room(a)
-        }
+        None => 0,
+        Some(g) => kind_room(g.geometry),
     }
 }
 
@@ -359,14 +344,12 @@ pub fn gds_room(grid: Found) -> usize
 fn room(octets: usize, at: usize, len: usize) -> bool
     ensures { result ≡ leb (at + len) octets }
 {
-    if octets < at {
-        return false;
-    }
-    len <= octets - at
+    at <= octets && len <= octets - at
 }
 
 // Puts the GDS of the grid given at place at, and nothing where none is given.
-pub fn put_gds(out: &mut [u8], at: usize, grid: Found) -> bool
+#[tactic(auto, unfolding(crate::specs::Section::gds_fits, crate::specs::Section::the_gds_put))]
+pub fn put_gds(out: &mut [u8], at: usize, grid: Option<Grid>) -> bool
     ensures value { result ≡ gds_fits out.old at grid }
     ensures out_after { out.new ≡ the_gds_put out.old at grid }
 {
@@ -374,8 +357,8 @@ pub fn put_gds(out: &mut [u8], at: usize, grid: Found) -> bool
         return false;
     }
     match grid {
-        Found::Nothing => true,
-        Found::Given(g) => {
+        None => true,
+        Some(g) => {
             put_kind(out, at, g);
             true
         }

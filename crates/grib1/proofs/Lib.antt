@@ -1,2 +1,3 @@
+pub mod Answered
 -- What the proofs of the C face share.
 pub mod Made

@@ -13,32 +13,27 @@ ghost use Rattle.rules.specs.Grid.{grid_faults};
 
 use catalogue::{catalogued, is_octant};
 use chart::{points_on, shape_of};
-use choices::choose;
 use octets::{octet, plain};
 use rules::bounds::{DISTANCE_MOST, LATITUDE_MOST, LONGITUDE_MOST, POINTS_MOST, SIDE_MOST};
-use rules::{Belts, Cone, Cylinder, Edges, Found, Geometry, Grid, Octant, Plane, Signed};
+use rules::{Belts, Cone, Cylinder, Edges, Geometry, Grid, Octant, Plane, Signed};
 
 // The grid given, else the one that octet 7 of the PDS at place p picks from the catalogue.
-pub fn grid_from(given: Found, s: &[u8], p: usize) -> Found
+#[tactic(auto, unfolding(rules::specs::Grid::the_grid_from))]
+pub fn grid_from(given: Option<Grid>, s: &[u8], p: usize) -> Option<Grid>
     ensures { result ≡ the_grid_from given s.now p }
 {
-    match given {
-        Found::Given(g) => Found::Given(g),
-        Found::Nothing => catalogued(octet(s, p, 7)),
-    }
+    given.or_else(|| catalogued(octet(s, p, 7)))
 }
 
 // Refusal 7: no GDS, and no grid of that number in the catalogue.
-pub fn grid_missing(f: Found) -> bool
+pub fn grid_missing(f: Option<Grid>) -> bool
     ensures { result ≡ the_grid_missing f }
 {
-    match f {
-        Found::Nothing => true,
-        Found::Given(_) => false,
-    }
+    f.is_none()
 }
 
 // A grid of zeros.
+#[tactic(auto, unfolding(rules::specs::Grid::the_no_grid))]
 fn no_grid() -> Grid
     ensures { result ≡ the_no_grid }
 {
@@ -61,13 +56,10 @@ fn no_grid() -> Grid
 }
 
 // The grid; zeros where there is none.
-pub fn the_grid(f: Found) -> Grid
+pub fn the_grid(f: Option<Grid>) -> Grid
     ensures { result ≡ grid_or_zeros f }
 {
-    match f {
-        Found::Nothing => no_grid(),
-        Found::Given(g) => g,
-    }
+    f.unwrap_or(no_grid())
 }
 
 // n, of a grid.
@@ -95,12 +87,12 @@ fn longitude_bad(z: Signed) -> bool
 fn scan_bad(nj: u16, scan: u8, la1: Signed, la2: Signed) -> bool
     ensures { result ≡ the_scan_bad nj scan la1 la2 }
 {
-    (1 < nj)
-        & !choose(
-            64 <= scan % 128,
-            la1.value < la2.value,
-            la2.value < la1.value,
-        )
+    let in_order = if 64 <= scan % 128 {
+        la1.value < la2.value
+    } else {
+        la2.value < la1.value
+    };
+    (1 < nj) & !in_order
 }
 
 // Ni or Nj, "least 1, most 65,534".
@@ -133,6 +125,7 @@ fn circles_bad(n: u16) -> bool
 }
 
 // Of a grid whose last latitude the scan test asks: n, the scan test, Ni, Nj and both corners.
+#[tactic(auto, unfolding(rules::specs::Table::any_of, rules::specs::Table::or_all))]
 fn corners_bad(g: Grid, la2: Signed, lo2: Signed) -> bool
     ensures { result ≡
         any_of
@@ -157,6 +150,7 @@ fn corners_bad(g: Grid, la2: Signed, lo2: Signed) -> bool
 }
 
 // Of a grid on a plane of projection, which the scan test does not ask: n, Ni, Nj, the first corner and the plane.
+#[tactic(auto, unfolding(rules::specs::Table::any_of, rules::specs::Table::or_all))]
 fn plane_bad(g: Grid, q: Plane) -> bool
     ensures { result ≡
         any_of
@@ -191,12 +185,11 @@ fn latlon_bad(g: Grid, x: Edges) -> bool
 fn thinned_bad(g: Grid, o: Octant) -> bool
     ensures { result ≡ any_of (faults_by g (Thinned o)) }
 {
-    let edges = o.edges;
     !is_octant(g)
         | latitude_bad(g.la1)
         | longitude_bad(g.lo1)
-        | latitude_bad(edges.la2)
-        | longitude_bad(edges.lo2)
+        | latitude_bad(o.edges.la2)
+        | longitude_bad(o.edges.lo2)
 }
 
 // Of a Mercator grid.
@@ -210,8 +203,7 @@ fn mercator_bad(g: Grid, x: Cylinder) -> bool
 fn lambert_bad(g: Grid, x: Cone) -> bool
     ensures { result ≡ any_of (faults_by g (Lambert x)) }
 {
-    let plane = x.plane;
-    plane_bad(g, plane)
+    plane_bad(g, x.plane)
         | latitude_bad(x.latin1)
         | latitude_bad(x.latin2)
         | latitude_bad(x.pole_la)
@@ -233,11 +225,11 @@ fn polar_bad(g: Grid, x: Plane) -> bool
 }
 
 // Refusal 9 of a grid, whoever gives it.
+#[tactic(auto, unfolding(rules::specs::Grid::grid_faults))]
 pub fn grid_bad(g: Grid) -> bool
     ensures { result ≡ any_of (grid_faults g) }
 {
-    let a = g.geometry;
-    match a {
+    match g.geometry {
         Geometry::LatLon(x) => latlon_bad(g, x),
         Geometry::Thinned(o) => thinned_bad(g, o),
         Geometry::Mercator(x) => mercator_bad(g, x),

@@ -8,7 +8,10 @@ use lib.Dec.{T, eqb}
 use lib.ListN.{length, get_or, get_or-eq_default}
 use borrow.Author.Tests.{eq-eqb, ne_eqb}
 use Rattle.rules.specs.declared.{Part.Part, Places.Places, Bitmap.Bitmap, Bitmap.TheVariants.Without}
-use Rattle.rules.specs.declared.{Bitmap.TheVariants.Carried, Bitmap.TheVariants.Stored, Header.Header}
+use Rattle.rules.specs.declared.{Header.Header, Refusal.Refusal}
+use Rattle.rules.specs.Answers.{header_reply}
+use Rattle.std.specs.Prelude.{Ok, Err}
+use Rattle.rules.specs.declared.{Bitmap.TheVariants.Carried, Bitmap.TheVariants.Stored}
 use Rattle.bits.specs.Bits.{octets_for}
 use Rattle.rules.specs.Table.{accepted}
 use denote.Ref.{Bor}
@@ -31,71 +34,71 @@ bms-end : (s : List ℕ) → after (places_of s).bds + 4 ≡ length s → 12 ≤
 unfolding places_of the_section_at
 bms-end s a b = omega arith
 
-module _ (s : List ℕ) (lent : Lent) (h : Header) (e : h ≡ header_of s lent) where
-  pub no : (h.refusal.number ≡ 0 → ⊥) → (k : ℕ) → no_part ≡ section_of s lent k
+-- a message that is refused has neither
+module _ (s : List ℕ) (lent : Lent) (r : Refusal) (e : Err r ≡ header_reply (header_of s lent)) where
+  pub no : (k : ℕ) → no_part ≡ section_of s lent k
   unfolding section_of
-  no z k = rw (S.refused s lent h e z)
+  no k = rw (S.refused s lent r e).0
 
-  pub no-force : (h.refusal.number ≡ 0 → ⊥)
-      → ◌≡◌ {A = Force} (record { stored = false; part = no_part }) (force_of (bitmap_of s lent))
+  pub no-force : ◌≡◌ {A = Force} (record { stored = false; part = no_part }) (force_of (bitmap_of s lent))
   unfolding bitmap_of no_bitmap
-  no-force z = rw (S.refused s lent h e z)
+  no-force = rw (S.refused s lent r e).0
 
-  module _ (z : h.refusal.number ≡ 0) where
-    yes-own : accepted (own_refusal s lent) ≡ true
-    yes-own = S.taken s lent h e z
+module _ (s : List ℕ) (lent : Lent) (h : Header) (e : Ok h ≡ header_reply (header_of s lent)) where
+  yes-own : accepted (own_refusal s lent) ≡ true
+  yes-own = S.taken s lent h e
 
-    places-of : h.places ≡ places_of s
-    places-of = S.places-of s lent h e z
+  places-of : h.places ≡ places_of s
+  places-of = S.places-of s lent h e
 
-    took : Taken s lent
-    took = subst T (sym yes-own) tt
+  took : Taken s lent
+  took = subst T (sym yes-own) tt
 
-    within : Inside s
-    within = reads-inside s lent took
+  within : Inside s
+  within = reads-inside s lent took
 
-    few : length s ≤ message_most
-    few = size-most s lent took
+  few : length s ≤ message_most
+  few = size-most s lent took
 
-    pub room : after h.places.bds < 4294967296
-    room = omega (arith, ap {B = ℕ} (λ (x : Places). after x.bds + 4) places-of ∙ within.end, few)
+  pub room : after h.places.bds < 4294967296
+  room = omega (arith, ap {B = ℕ} (λ (x : Places). after x.bds + 4) places-of ∙ within.end, few)
 
-    pub start-room : h.places.bms.start + 6 < 4294967296
-    start-room = let b : h.places.bms.start + h.places.bms.len + 16 ≤ length s = rw places-of (bms-end s within.end within.bds) in omega (arith, b, few)
+  pub start-room : h.places.bms.start + 6 < 4294967296
+  start-room = let b : h.places.bms.start + h.places.bms.len + 16 ≤ length s = rw places-of (bms-end s within.end within.bds) in omega (arith, b, few)
 
-    force-by : (b : Bitmap) → h.bitmap ≡ b → in_force b h.places.bms h.points ≡ bitmap_of s lent
-    unfolding bitmap_of in_force_in
-    force-by b q = rw (yes-own, sym q, places-of, S.bitmap-of s lent h e z, S.points-of s lent h e z)
+  force-by : (b : Bitmap) → h.bitmap ≡ b → in_force b h.places.bms h.points ≡ bitmap_of s lent
+  unfolding bitmap_of in_force_in
+  force-by b q = rw (yes-own, sym q, places-of, S.bitmap-of s lent h e, S.points-of s lent h e)
 
-    pub by-none : h.bitmap ≡ Without
-        → ◌≡◌ {A = Force} (record { stored = false; part = no_part }) (force_of (bitmap_of s lent))
-    unfolding in_force no_bitmap
-    by-none q = ap force_of (force-by Without q)
+  pub by-none : h.bitmap ≡ Without
+      → ◌≡◌ {A = Force} (record { stored = false; part = no_part }) (force_of (bitmap_of s lent))
+  unfolding in_force no_bitmap
+  by-none q = ap force_of (force-by Without q)
 
-    pub by-carried : h.bitmap ≡ Carried
-        → ◌≡◌ {A = Force} (record { stored = false; part = record { start = h.places.bms.start + 6; len = octets_for h.points } }) (force_of (bitmap_of s lent))
-    unfolding in_force
-    by-carried q = ap force_of (force-by Carried q)
+  pub by-carried : h.bitmap ≡ Carried
+      → ◌≡◌ {A = Force} (record { stored = false; part = record { start = h.places.bms.start + 6; len = octets_for h.points } }) (force_of (bitmap_of s lent))
+  unfolding in_force
+  by-carried q = ap force_of (force-by Carried q)
 
-    pub by-stored : (k : ℕ) → h.bitmap ≡ Stored k
-        → ◌≡◌ {A = Force} (record { stored = true; part = record { start = 0; len = octets_for h.points } }) (force_of (bitmap_of s lent))
-    unfolding in_force
-    by-stored k q = ap force_of (force-by (Stored k) q)
+  pub by-stored : (k : ℕ) → h.bitmap ≡ Stored k
+      → ◌≡◌ {A = Force} (record { stored = true; part = record { start = 0; len = octets_for h.points } }) (force_of (bitmap_of s lent))
+  unfolding in_force
+  by-stored k q = ap force_of (force-by (Stored k) q)
 
-    module _ (k : ℕ) (p : Part) (ep : p ≡ get_or (all_sections h.places) k no_part) where
-      is : get_or (sections_of s) k no_part ≡ p
-      unfolding sections_of all_sections
-      is =
-          ap {B = Part} (λ (a : ℕ). get_or (record { start = 0; len = 8 } ∷ (places_of s).pds ∷ (places_of s).gds ∷ (places_of s).bms ∷ (places_of s).bds ∷ record { start = a; len = 4 } ∷ []) k no_part) (omega (arith, within.end))
-          ∙ ap {B = Part} (λ (x : Places). get_or (all_sections x) k no_part) (sym places-of) ∙ sym ep
+  module _ (k : ℕ) (p : Part) (ep : p ≡ get_or (all_sections h.places) k no_part) where
+    is : get_or (sections_of s) k no_part ≡ p
+    unfolding sections_of all_sections
+    is =
+        ap {B = Part} (λ (a : ℕ). get_or (record { start = 0; len = 8 } ∷ (places_of s).pds ∷ (places_of s).gds ∷ (places_of s).bms ∷ (places_of s).bds ∷ record { start = a; len = 4 } ∷ []) k no_part) (omega (arith, within.end))
+        ∙ ap {B = Part} (λ (x : Places). get_or (all_sections x) k no_part) (sym places-of) ∙ sym ep
 
-      pub empty : p.len ≡ 0 → no_part ≡ section_of s lent k
-      unfolding section_of
-      empty q = let n : eqb p.len 0 ≡ true = eq-eqb _ _ q in rw (yes-own, is, n)
+    pub empty : p.len ≡ 0 → no_part ≡ section_of s lent k
+    unfolding section_of
+    empty q = let n : eqb p.len 0 ≡ true = eq-eqb _ _ q in rw (yes-own, is, n)
 
-      pub given : (p.len ≡ 0 → ⊥) → p ≡ section_of s lent k
-      unfolding section_of
-      given q = let n : eqb p.len 0 ≡ false = ne_eqb _ _ q in rw (yes-own, is, n)
+    pub given : (p.len ≡ 0 → ⊥) → p ≡ section_of s lent k
+    unfolding section_of
+    given q = let n : eqb p.len 0 ≡ false = ne_eqb _ _ q in rw (yes-own, is, n)
 
 -- a section lies inside its message
 listed-fits : (s : List ℕ) → Inside s → (k : ℕ) → after (get_or (sections_of s) k no_part) ≤ length s

@@ -60,15 +60,16 @@ fn nth(p: Places, k: u32) -> Part
 pub fn section_part(s: &[u8], number: u16, store: &[u8], k: u32) -> Part
     ensures { result ≡ section_of s.now (lent_as number store.now) k }
 {
-    let h = header(s, number, store);
-    if h.refusal.number != 0 {
-        return Part { start: 0, len: 0 };
+    match header(s, number, store) {
+        Err(_) => Part { start: 0, len: 0 },
+        Ok(h) => {
+            let p = nth(h.places, k);
+            if p.len == 0 {
+                return Part { start: 0, len: 0 };
+            }
+            p
+        }
     }
-    let p = nth(h.places, k);
-    if p.len == 0 {
-        return Part { start: 0, len: 0 };
-    }
-    p
 }
 
 // Section k of a message, that part of it.
@@ -84,33 +85,30 @@ pub fn section<'a>(s: &'a [u8], number: u16, store: &[u8], k: u32) -> &'a [u8]
 pub fn force_part(s: &[u8], number: u16, store: &[u8]) -> Force
     ensures { result ≡ force_of (bitmap_of s.now (lent_as number store.now)) }
 {
-    let none = Part { start: 0, len: 0 };
-    let h = header(s, number, store);
-    if h.refusal.number != 0 {
-        return Force {
-            stored: false,
-            part: none,
-        };
-    }
-    let start = h.places.bms.start;
-    let len = ((h.points as usize + 7) / 8) as u32;
-    let bitmap = h.bitmap;
-    match bitmap {
-        Bitmap::Without => Force {
-            stored: false,
-            part: none,
-        },
-        Bitmap::Carried => Force {
-            stored: false,
-            part: Part {
-                start: start + 6,
-                len,
-            },
-        },
-        Bitmap::Stored(_) => Force {
-            stored: true,
-            part: Part { start: 0, len },
-        },
+    let none = Force {
+        stored: false,
+        part: Part { start: 0, len: 0 },
+    };
+    match header(s, number, store) {
+        Err(_) => none,
+        Ok(h) => {
+            let len = ((h.points as usize + 7) / 8) as u32;
+            let bitmap = h.bitmap;
+            match bitmap {
+                Bitmap::Without => none,
+                Bitmap::Carried => Force {
+                    stored: false,
+                    part: Part {
+                        start: h.places.bms.start + 6,
+                        len,
+                    },
+                },
+                Bitmap::Stored(_) => Force {
+                    stored: true,
+                    part: Part { start: 0, len },
+                },
+            }
+        }
     }
 }
 

@@ -1,5 +1,5 @@
 // A grid's geometry in figures, and back: faces, tables of grids and files of vectors hold figures. All total.
-#![tactic(auto)]
+#![tactic(auto, unfolding(rules::specs::Figures::the_figures_of))]
 
 ghost use Rattle.std.specs.Prelude.{◌≡◌};
 ghost use Rattle.rules.specs.declared.Geometry.TheVariants.{LatLon, Thinned, Mercator, Lambert, Gaussian, Polar};
@@ -8,8 +8,7 @@ ghost use Rattle.rules.specs.Figures.{the_start_number, start_by, the_geometry_b
 ghost use Rattle.rules.specs.Figures.{the_edges_in, the_plane_in};
 ghost use Rattle.rules.specs.Figures.{the_cylinder_in, the_cone_in, the_belts_in, the_geometry_of};
 
-use octets::plain;
-use rules::{Belts, Cone, Cylinder, Edges, Figures, Geometry, Octant, Plane, Start};
+use rules::{Belts, Cone, Cylinder, Edges, Figures, Geometry, Octant, Plane, Signed, Start};
 
 // The counts from the equator are 1, those from the pole 2, and 3 are counts that no octant has.
 fn start_number(start: Start) -> u8
@@ -26,52 +25,62 @@ fn start_number(start: Start) -> u8
 fn start_by(rows: u8) -> Start
     ensures { result ≡ start_by rows }
 {
-    if rows == 1 {
-        return Start::Equator;
+    match rows {
+        1 => Start::Equator,
+        2 => Start::Pole,
+        _ => Start::Neither,
     }
-    if rows == 2 {
-        return Start::Pole;
-    }
-    Start::Neither
 }
 
 // The geometry of a latitude/longitude grid whose rows are counted so, 0 where all have Ni, with these edges.
+#[tactic(auto, unfolding(rules::specs::Figures::the_geometry_by))]
 pub fn geometry_by(rows: u8, edges: Edges) -> Geometry
     ensures { result ≡ the_geometry_by rows edges }
 {
-    if rows == 0 {
-        return Geometry::LatLon(edges);
+    match rows {
+        0 => Geometry::LatLon(edges),
+        _ => Geometry::Thinned(Octant {
+            edges,
+            start: start_by(rows),
+        }),
     }
-    Geometry::Thinned(Octant {
-        edges,
-        start: start_by(rows),
-    })
 }
+
+// An angle that a kind does not have.
+const NONE: Signed = Signed { value: 0 };
+
+// The figures of which a kind has none.
+const ZEROS: Figures = Figures {
+    kind: 0,
+    rows: 0,
+    la2: NONE,
+    lo2: NONE,
+    di: 0,
+    dj: 0,
+    dx: 0,
+    dy: 0,
+    lov: NONE,
+    latin1: NONE,
+    latin2: NONE,
+    pole_la: NONE,
+    pole_lo: NONE,
+    centre: 0,
+    circles: 0,
+};
 
 // The figures of a latitude/longitude grid.
 fn edges_figures(rows: u8, x: Edges) -> Figures
     ensures { result ≡
         figures 0 rows x.la2 x.lo2 x.di x.dj 0 0 none none none none none 0 0 }
 {
-    let la2 = x.la2;
-    let lo2 = x.lo2;
-    let none = plain(0);
     Figures {
         kind: 0,
         rows,
-        la2,
-        lo2,
+        la2: x.la2,
+        lo2: x.lo2,
         di: x.di,
         dj: x.dj,
-        dx: 0,
-        dy: 0,
-        lov: none,
-        latin1: none,
-        latin2: none,
-        pole_la: none,
-        pole_lo: none,
-        centre: 0,
-        circles: 0,
+        ..ZEROS
     }
 }
 
@@ -79,26 +88,14 @@ fn edges_figures(rows: u8, x: Edges) -> Figures
 fn cylinder_figures(x: Cylinder) -> Figures
     ensures { result ≡ the_figures_of (Mercator x) }
 {
-    let la2 = x.la2;
-    let lo2 = x.lo2;
-    let latin1 = x.latin;
-    let none = plain(0);
     Figures {
         kind: 1,
-        rows: 0,
-        la2,
-        lo2,
-        di: 0,
-        dj: 0,
+        la2: x.la2,
+        lo2: x.lo2,
         dx: x.di,
         dy: x.dj,
-        lov: none,
-        latin1,
-        latin2: none,
-        pole_la: none,
-        pole_lo: none,
-        centre: 0,
-        circles: 0,
+        latin1: x.latin,
+        ..ZEROS
     }
 }
 
@@ -106,29 +103,13 @@ fn cylinder_figures(x: Cylinder) -> Figures
 fn cone_figures(x: Cone) -> Figures
     ensures { result ≡ the_figures_of (Lambert x) }
 {
-    let plane = x.plane;
-    let lov = plane.lov;
-    let latin1 = x.latin1;
-    let latin2 = x.latin2;
-    let pole_la = x.pole_la;
-    let pole_lo = x.pole_lo;
-    let none = plain(0);
     Figures {
         kind: 3,
-        rows: 0,
-        la2: none,
-        lo2: none,
-        di: 0,
-        dj: 0,
-        dx: plane.dx,
-        dy: plane.dy,
-        lov,
-        latin1,
-        latin2,
-        pole_la,
-        pole_lo,
-        centre: plane.centre,
-        circles: 0,
+        latin1: x.latin1,
+        latin2: x.latin2,
+        pole_la: x.pole_la,
+        pole_lo: x.pole_lo,
+        ..plane_figures(x.plane)
     }
 }
 
@@ -136,25 +117,13 @@ fn cone_figures(x: Cone) -> Figures
 fn belts_figures(x: Belts) -> Figures
     ensures { result ≡ the_figures_of (Gaussian x) }
 {
-    let la2 = x.la2;
-    let lo2 = x.lo2;
-    let none = plain(0);
     Figures {
         kind: 4,
-        rows: 0,
-        la2,
-        lo2,
+        la2: x.la2,
+        lo2: x.lo2,
         di: x.di,
-        dj: 0,
-        dx: 0,
-        dy: 0,
-        lov: none,
-        latin1: none,
-        latin2: none,
-        pole_la: none,
-        pole_lo: none,
-        centre: 0,
         circles: x.circles,
+        ..ZEROS
     }
 }
 
@@ -162,24 +131,13 @@ fn belts_figures(x: Belts) -> Figures
 fn plane_figures(x: Plane) -> Figures
     ensures { result ≡ the_figures_of (Polar x) }
 {
-    let lov = x.lov;
-    let none = plain(0);
     Figures {
         kind: 5,
-        rows: 0,
-        la2: none,
-        lo2: none,
-        di: 0,
-        dj: 0,
+        lov: x.lov,
         dx: x.dx,
         dy: x.dy,
-        lov,
-        latin1: none,
-        latin2: none,
-        pole_la: none,
-        pole_lo: none,
         centre: x.centre,
-        circles: 0,
+        ..ZEROS
     }
 }
 
@@ -189,11 +147,7 @@ pub fn figures_of(geometry: Geometry) -> Figures
 {
     match geometry {
         Geometry::LatLon(x) => edges_figures(0, x),
-        Geometry::Thinned(o) => {
-            let x = o.edges;
-            let start = o.start;
-            edges_figures(start_number(start), x)
-        }
+        Geometry::Thinned(o) => edges_figures(start_number(o.start), o.edges),
         Geometry::Mercator(x) => cylinder_figures(x),
         Geometry::Lambert(x) => cone_figures(x),
         Geometry::Gaussian(x) => belts_figures(x),
@@ -205,11 +159,9 @@ pub fn figures_of(geometry: Geometry) -> Figures
 fn edges_in(f: Figures) -> Edges
     ensures { result ≡ the_edges_in f }
 {
-    let la2 = f.la2;
-    let lo2 = f.lo2;
     Edges {
-        la2,
-        lo2,
+        la2: f.la2,
+        lo2: f.lo2,
         di: f.di,
         dj: f.dj,
     }
@@ -219,13 +171,10 @@ fn edges_in(f: Figures) -> Edges
 fn cylinder_in(f: Figures) -> Cylinder
     ensures { result ≡ the_cylinder_in f }
 {
-    let la2 = f.la2;
-    let lo2 = f.lo2;
-    let latin = f.latin1;
     Cylinder {
-        la2,
-        lo2,
-        latin,
+        la2: f.la2,
+        lo2: f.lo2,
+        latin: f.latin1,
         di: f.dx,
         dj: f.dy,
     }
@@ -235,9 +184,8 @@ fn cylinder_in(f: Figures) -> Cylinder
 fn plane_in(f: Figures) -> Plane
     ensures { result ≡ the_plane_in f }
 {
-    let lov = f.lov;
     Plane {
-        lov,
+        lov: f.lov,
         dx: f.dx,
         dy: f.dy,
         centre: f.centre,
@@ -248,16 +196,12 @@ fn plane_in(f: Figures) -> Plane
 fn cone_in(f: Figures) -> Cone
     ensures { result ≡ the_cone_in f }
 {
-    let latin1 = f.latin1;
-    let latin2 = f.latin2;
-    let pole_la = f.pole_la;
-    let pole_lo = f.pole_lo;
     Cone {
         plane: plane_in(f),
-        latin1,
-        latin2,
-        pole_la,
-        pole_lo,
+        latin1: f.latin1,
+        latin2: f.latin2,
+        pole_la: f.pole_la,
+        pole_lo: f.pole_lo,
     }
 }
 
@@ -265,11 +209,9 @@ fn cone_in(f: Figures) -> Cone
 fn belts_in(f: Figures) -> Belts
     ensures { result ≡ the_belts_in f }
 {
-    let la2 = f.la2;
-    let lo2 = f.lo2;
     Belts {
-        la2,
-        lo2,
+        la2: f.la2,
+        lo2: f.lo2,
         di: f.di,
         circles: f.circles,
     }
@@ -286,26 +228,16 @@ fn no_kind(f: Figures) -> Geometry
 }
 
 // The geometry of figures, whatever they are.
+#[tactic(auto, unfolding(rules::specs::Figures::the_geometry_of))]
 pub fn geometry_of(f: Figures) -> Geometry
     ensures { result ≡ the_geometry_of f }
 {
-    if f.kind == 0 {
-        return geometry_by(f.rows, edges_in(f));
+    match (f.kind, f.rows) {
+        (0, rows) => geometry_by(rows, edges_in(f)),
+        (1, 0) => Geometry::Mercator(cylinder_in(f)),
+        (3, 0) => Geometry::Lambert(cone_in(f)),
+        (4, 0) => Geometry::Gaussian(belts_in(f)),
+        (5, 0) => Geometry::Polar(plane_in(f)),
+        _ => no_kind(f),
     }
-    if f.rows != 0 {
-        return no_kind(f);
-    }
-    if f.kind == 1 {
-        return Geometry::Mercator(cylinder_in(f));
-    }
-    if f.kind == 3 {
-        return Geometry::Lambert(cone_in(f));
-    }
-    if f.kind == 4 {
-        return Geometry::Gaussian(belts_in(f));
-    }
-    if f.kind == 5 {
-        return Geometry::Polar(plane_in(f));
-    }
-    no_kind(f)
 }

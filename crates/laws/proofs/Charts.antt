@@ -1,5 +1,6 @@
 -- The chart of any shape: the point of a place inside is one of its points, and its rows, from north, have no more
 -- points together than it has. By the two kinds of shape, and by induction on the rows.
+use Rattle.std.specs.Prelude.{None, Some}
 use Prim.Native.Nat.{ℕ, zero, suc, ◌+◌, ◌-◌, ◌*◌, ◌<◌, ◌≤◌}
 use mathlib.Core.Bool.{Bool, true, false, ◌&&◌, cond}
 use mathlib.Core.Path.{◌≡◌, refl, sym, subst, ◌∙◌, ap}
@@ -12,8 +13,7 @@ use lib.Arith.{digits_lt}
 use lib.Dec.{ltb}
 use lib.ListN.{length, get_or}
 use Rattle.rules.specs.declared.{Rectangle.Rectangle, Thinning.Thinning, Shape.Shape, Shape.TheVariants.Even}
-use Rattle.rules.specs.declared.{Shape.TheVariants.Uneven, Spot.Spot, GridPoint.GridPoint, Pointed.TheVariants.At}
-use Rattle.rules.specs.declared.{Pointed.TheVariants.Off as Nowhere}
+use Rattle.rules.specs.declared.{Shape.TheVariants.Uneven, Spot.Spot, GridPoint.GridPoint}
 use Rattle.rules.specs.Counts.{total, the_before_row, counts_of}
 use Rattle.rules.specs.Chart.{west, north, by_column, turned, point_of, across, the_point_among, the_points_on, the_rows_on, the_row_long}
 use Rattle.rules.specs.Chart.{the_point_on, pointed}
@@ -70,7 +70,7 @@ point-lt (Even q) c hr hc =
 point-lt (Uneven u) c hr hc = among-lt (counts_of u.start) u.scan c hr hc
 
 -- a place that has a point is inside, and the point is one of the shape's
-at-is : (b : Bool) (x k : GridPoint) → cond b (At x) Nowhere ≡ At k → (b ≡ true) × (x ≡ k)
+at-is : (b : Bool) (x k : GridPoint) → cond b (Some x) None ≡ Some k → (b ≡ true) × (x ≡ k)
 at-is true x k e = (refl, cc)
 at-is false x k e = absurd (let z : ◌≡◌ {A = ℕ} 0 1 = cc in omega arith)
 
@@ -80,7 +80,7 @@ pub record Found (g : Shape) (c : Spot) (k : ℕ) : Type 0 where
   pub is : the_point_on g c ≡ k
   pub below : k < the_points_on g
 
-pub found : (g : Shape) (c : Spot) (k : GridPoint) → pointed g c ≡ At k → Found g c k.0
+pub found : (g : Shape) (c : Spot) (k : GridPoint) → pointed g c ≡ Some k → Found g c k.0
 unfolding pointed
 found g c k e =
     let h = at-is (ltb c.row (the_rows_on g) && ltb c.column (the_row_long g c.row)) (record { 0 = the_point_on g c }) k e in

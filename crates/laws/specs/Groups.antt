@@ -1,8 +1,8 @@
 -- The reader's table in groups, as code judges it: rows 1 to 11 over what was read before, the walk's 20 to 23 among
 -- them, in three. That they are the table, with row 12 after them, is the law RowsInGroups. Each test can be judged
 -- once those above it have passed: then none reads past its section.
-use Rattle.std.specs.Prelude.{ℕ, ◌&&◌, List, [], ◌∷◌, ◌++◌}
-use Rattle.rules.specs.declared.{Part.Part, Places.Places, Found.Found, Bitmap.Bitmap, Packing.Packing, Parsed.Parsed}
+use Rattle.std.specs.Prelude.{ℕ, ◌&&◌, List, [], ◌∷◌, ◌++◌, Option}
+use Rattle.rules.specs.declared.{Part.Part, Places.Places, Bitmap.Bitmap, Packing.Packing, Parsed.Parsed, Grid.Grid}
 use Rattle.rules.specs.Table.{Row, row, any_of}
 use Rattle.rules.specs.Places.{pds_start, the_has_grid, the_size_bad, the_grib_bad, the_edition_bad, total_faults}
 use Rattle.rules.specs.Walk.{walk_of}
@@ -21,7 +21,7 @@ layout_rows s =
     ∷ walk_of s ++ (row 6 (any_of (time_faults s pds_start)) ∷ [])
 
 -- rows 7 to 9
-unfoldable pub grid_rows : List ℕ → Places → Found → List Row
+unfoldable pub grid_rows : List ℕ → Places → Option Grid → List Row
 grid_rows s p found =
     row 7 (the_grid_missing found)
     ∷ row 8 (the_has_grid s pds_start && the_gds_bad s p.gds)

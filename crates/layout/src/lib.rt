@@ -3,7 +3,8 @@
 #![tactic(auto)]
 
 ghost use Rattle.std.specs.Prelude.{◌<◌, ◌≡◌};
-ghost use Rattle.rules.specs.Table.{any_of, first_or};
+ghost use Rattle.rules.specs.Table.{any_of};
+ghost use Rattle.rules.specs.Answers.{judged};
 ghost use Rattle.rules.specs.Places.{pds_start, the_end_start, the_has_grid, the_has_bitmap, places_of, the_size_bad};
 ghost use Rattle.rules.specs.Places.{the_grib_bad, the_edition_bad};
 ghost use Rattle.rules.specs.Places.{total_faults};
@@ -100,49 +101,47 @@ fn total_bad(s: &[u8]) -> bool
     (three(s, 0, 5) as usize != s.len()) | (four(s, end_start(s), 1) != SEVENS)
 }
 
-// Refusals 20 to 22 of a section, by its number, and what is below them where none applies: its length's octets pass
-// the end section's start, its length is odd, is out of its bounds, or it passes that start itself. An unannounced one
-// has none.
-fn section_judged(
-    end: usize,
-    section: u32,
-    there: bool,
-    out: bool,
-    p: Part,
-    below: Refusal,
-) -> Refusal
+// Refusals 20 to 22 of a section, by its number: its length's octets pass the end section's start, its length is odd,
+// is out of its bounds, or it passes that start itself. An unannounced one has none.
+#[tactic(auto, unfolding(rules::specs::Answers::judged, rules::specs::Walk::section_rows))]
+fn section_judged(end: usize, section: u32, there: bool, out: bool, p: Part) -> Result<(), Refusal>
     requires { p.start < 4294967295 }
-    ensures { result ≡ first_or (section_rows end section there out p) below }
+    ensures { result ≡ judged (section_rows end section there out p) }
 {
     let place = p.start + 1;
-    let passes = there & (end < p.start as usize + p.len as usize);
-    let last = refuse_at(22, section, place, passes, below);
-    let bounds = refuse_at(21, section, place, there & out, last);
-    let odd = refuse_at(20, section, place, there & (p.len % 2 == 1), bounds);
     let cut = there & (end < p.start as usize + 3);
-    refuse_at(22, section, place, cut, odd)
+    refuse_at(22, section, place, cut)?;
+    let odd = there & (p.len % 2 == 1);
+    refuse_at(20, section, place, odd)?;
+    refuse_at(21, section, place, there & out)?;
+    let passes = there & (end < p.start as usize + p.len as usize);
+    refuse_at(22, section, place, passes)
 }
 
-// Refusals 20 to 23: the walk from section to section, and what is below them where it stops nowhere.
-fn walk(end: usize, grid: bool, bitmap: bool, p: Places, below: Refusal) -> Refusal
+// Refusals 20 to 23: the walk from section to section.
+#[tactic(auto, using(reply::proofs::Judged::judged_append), unfolding(rules::specs::Answers::judged, rules::specs::Walk::walk_rows),)]
+fn walk(end: usize, grid: bool, bitmap: bool, p: Places) -> Result<(), Refusal>
     requires { PlacesFit p }
-    ensures { result ≡ first_or (walk_rows end grid bitmap p) below }
+    ensures { result ≡ judged (walk_rows end grid bitmap p) }
 {
-    let left = p.bds.start + p.bds.len;
-    let over = refuse_at(23, 5, left + 1, (left as usize) < end, below);
-    let bds = section_judged(end, 4, true, p.bds.len < BDS_LEAST, p.bds, over);
-    let bms = section_judged(end, 3, bitmap, p.bms.len < BMS_LEAST, p.bms, bds);
-    let gds = section_judged(end, 2, grid, p.gds.len < GDS_LEAST, p.gds, bms);
     let out = (p.pds.len < PDS_LEAST) | (PDS_MOST < p.pds.len);
-    section_judged(end, 1, true, out, p.pds, gds)
+    section_judged(end, 1, true, out, p.pds)?;
+    section_judged(end, 2, grid, p.gds.len < GDS_LEAST, p.gds)?;
+    section_judged(end, 3, bitmap, p.bms.len < BMS_LEAST, p.bms)?;
+    section_judged(end, 4, true, p.bds.len < BDS_LEAST, p.bds)?;
+    let left = p.bds.start + p.bds.len;
+    refuse_at(23, 5, left + 1, (left as usize) < end)
 }
 
-// Refusals 1 to 6 of a message, 20 to 23 in the place of 5, and what is below them where none applies.
-pub fn layout(s: &[u8], below: Refusal) -> Refusal
-    ensures { result ≡ first_or (layout_rows s.now) below }
+// Refusals 1 to 6 of a message, 20 to 23 in the place of 5.
+#[tactic(auto, using(reply::proofs::Judged::judged_append), unfolding(rules::specs::Answers::judged, rules::specs::Walk::walk_of, laws::specs::Groups::layout_rows,),)]
+pub fn layout(s: &[u8]) -> Result<(), Refusal>
+    ensures { result ≡ judged (layout_rows s.now) }
 {
-    let timed = refuse(6, time_bad(s, PDS_START), below);
-    let late = walk(end_start(s), has_grid(s), has_bitmap(s), places(s), timed);
-    let early = refuse(3, edition_bad(s), refuse(4, total_bad(s), late));
-    refuse(1, size_bad(s), refuse(2, grib_bad(s), early))
+    refuse(1, size_bad(s))?;
+    refuse(2, grib_bad(s))?;
+    refuse(3, edition_bad(s))?;
+    refuse(4, total_bad(s))?;
+    walk(end_start(s), has_grid(s), has_bitmap(s), places(s))?;
+    refuse(6, time_bad(s, PDS_START))
 }

@@ -1,15 +1,13 @@
 // The listing program's work on each file that an argument names: a line with the name, then the listing.
 #![tactic(auto)]
 
-use program_io::{open_read, write_all};
+use program_io::open_read;
 use std::rt::Files;
 use std::{env, io};
 
 // The listing of the file of that name, under its name.
 fn print_case(rt: &(impl Files + Print + Eprint), path: &str) {
-    write_all(rt, b"== ");
-    write_all(rt, path.as_bytes());
-    write_all(rt, b"\n");
+    let _ = println!(rt; "== {path}");
     if let Some(mut file) = open_read(rt, path) {
         printer::print_from(rt, &mut file);
     }

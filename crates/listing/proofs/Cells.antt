@@ -1,5 +1,6 @@
 -- The chart's cells: the grid point at a place inside the chart is one of the grid's; cells and rows written one after
 -- another, by the laws of written text; and the room that they take, by the laws of the chart's rows.
+use Rattle.std.specs.Prelude.{None, Option, Some}
 use mathlib.Core.Path.{◌≡◌, sym, ap, subst, ◌∙◌}
 use mathlib.Core.Bool.{Bool, true, false, cond}
 use Prim.Native.Nat.{ℕ, zero, suc, ◌+◌, ◌*◌, ◌≤◌, ◌<◌}
@@ -9,8 +10,7 @@ use mathlib.Core.List.{List, [], ◌∷◌}
 use lib.Dec.{eqb}
 use lib.ListN.{length, get_or, length-append}
 use Rattle.laws.proofs.Charts.{found, rows_to, rows-to}
-use Rattle.rules.specs.declared.{Shape.Shape, GridPoint.GridPoint, Spot.Spot, Pointed.Pointed, Pointed.TheVariants.At}
-use Rattle.rules.specs.declared.{Pointed.TheVariants.Off}
+use Rattle.rules.specs.declared.{Shape.Shape, GridPoint.GridPoint, Spot.Spot, Grid.Grid}
 use Rattle.rules.specs.Bitmap.{mark_of, value_of}
 use Rattle.rules.specs.Listing.{hyphen, joined_to, stop, ended, line, decimal, cell, row_line, row_lines}
 use Rattle.listing.specs.Text.{Wrote}
@@ -19,14 +19,14 @@ use Rattle.listing.proofs.Digits.{decimal-most}
 use Rattle.rules.specs.Chart.{the_points_on, the_rows_on, the_row_long, the_point_on, pointed}
 
 module _ (g : Shape) (c : Spot) (hr : c.row < the_rows_on g) (hc : c.column < the_row_long g c.row) where
-  inside : pointed g c ≡ At (record { 0 = the_point_on g c })
+  inside : pointed g c ≡ Some (record { 0 = the_point_on g c })
   unfolding pointed
   inside = rw (lt-ltb c.row (the_rows_on g) hr, lt-ltb c.column (the_row_long g c.row) hc)
 
-  pub point_at : (p : Pointed) (q : GridPoint) → p ≡ pointed g c → p ≡ At q → (q.0 ≡ the_point_on g c) × (q.0 < the_points_on g)
+  pub point_at : (p : Option GridPoint) (q : GridPoint) → p ≡ pointed g c → p ≡ Some q → (q.0 ≡ the_point_on g c) × (q.0 < the_points_on g)
   point_at p q e f = let h = found g c q (sym e ∙ f) in (sym h.is, h.below)
 
-  pub never_off : (p : Pointed) → p ≡ pointed g c → p ≡ Off → ⊥
+  pub never_off : (p : Option GridPoint) → p ≡ pointed g c → p ≡ None → ⊥
   never_off p e f =
       let i = inside in
       let z : ◌≡◌ {A = ℕ} 0 1 = cc in

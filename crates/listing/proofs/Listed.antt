@@ -15,9 +15,13 @@ use Rattle.bits.specs.Tables.{tab}
 use Rattle.bits.proofs.Fill.{length-tab, get_or-tab}
 use Rattle.bits.proofs.Placing.{placed-none, placed-front}
 use Rattle.message.proofs.Stages.{one_more}
-use Rattle.message.proofs.Said.{refusal-by}
+use Rattle.message.proofs.Said.{refused-as, taken-as}
+use Rattle.message.proofs.Laws.{by-refusal}
+use Rattle.std.specs.Prelude.{Ok, Err}
 use Rattle.laws.proofs.Judged.{read-zero}
-use Rattle.rules.specs.declared.{Refusal.Refusal, Shape.Shape, Header.Header}
+use Rattle.rules.specs.declared.{Refusal.Refusal, Shape.Shape}
+use Rattle.rules.specs.declared.{Header.Header as Said}
+use Rattle.rules.specs.Answers.{said_by, header_reply, replied}
 use Rattle.rules.specs.Bounds.{listed_most, listed_room}
 use Rattle.rules.specs.Table.{row, refusal, first_or, first, accepted, filled}
 use Rattle.rules.specs.Grid.{shape_of, points_of}
@@ -41,7 +45,7 @@ unfolding listed
 too_short s t h = rw (lt-ltb (length t) text_room h) (refl, sym (placed-none t 0))
 
 -- the first line in two halves
-pub first_done : (t u : List ℕ) (r : ℕ) (h : Header) (g : Shape) (columns rows : ℕ) → g ≡ shape_of h.grid
+pub first_done : (t u : List ℕ) (r : ℕ) (h : Said) (g : Shape) (columns rows : ℕ) → g ≡ shape_of h.grid
     → columns ≡ the_columns_on g → rows ≡ the_rows_on g
     → Wrote t u 0 r
     (counts h.points h.present columns rows
@@ -113,8 +117,7 @@ points-fit s lent a b h =
     ltb-false (length a) (points_in s)
     (or_first _ (ltb (length b) (points_in s)) (fits (own_refusal s lent) (accepted (own_refusal s lent)) t refl z))
 
-module _ (s a b : List ℕ) (h : Header) (size : length s ≤ listed_most) (la : length a ≡ listed_room) (lb : length b ≡ listed_room)
-    (e : h ≡ read_of s no_store a b) where
+module _ (s a b : List ℕ) (size : length s ≤ listed_most) (la : length a ≡ listed_room) (lb : length b ≡ listed_room) where
   whole : read_refusal s no_store a b ≡ listing_refusal s
   unfolding listing_refusal first_or
   whole =
@@ -122,38 +125,38 @@ module _ (s a b : List ℕ) (h : Header) (size : length s ≤ listed_most) (la :
       (la ∙ sym (length-tab (λ _. 0) listed_room)) (lb ∙ sym (length-tab (λ _. 0) listed_room))
       ∙ sym (rw (le-ltb listed_most (length s) size))
 
-  own : h.refusal ≡ listing_refusal s
-  unfolding read_of answer_by found_in found_by
-  own =
-      ap (λ (x : Header). x.refusal) e
-      ∙ refusal-by (accepted (read_refusal s no_store a b)) (read_refusal s no_store a b) (found_in s no_store) refl
-      (read-zero s no_store a b) refl
-      ∙ whole
+  by : header_reply (read_of s no_store a b) ≡ replied (listing_refusal s) (said_by (found_in s no_store))
+  unfolding read_of
+  by =
+      by-refusal s no_store (read_refusal s no_store a b) (read-zero s no_store a b)
+      ∙ ap (λ (x : Refusal). replied x (said_by (found_in s no_store))) whole
 
-  pub refused-is : (t : List ℕ) → text_room ≤ length t → (h.refusal.number ≡ 0 → ⊥)
-      → listed s t ≡ refused_line h.refusal.number
+  pub refused-is : (t : List ℕ) → text_room ≤ length t → (r : Refusal) → Err r ≡ header_reply (read_of s no_store a b)
+      → listed s t ≡ refused_line r.number
   unfolding listing_of
-  refused-is t room z =
-      let n : accepted (listing_refusal s) ≡ false = ne_eqb (listing_refusal s).number 0 (λ q. z (ap (λ (x : Refusal). x.number) own ∙ q)) in
-      roomy s t room ∙ rw n (ap (λ (x : Refusal). refused_line x.number) (sym own))
+  refused-is t room r e =
+      let f = refused-as (accepted (listing_refusal s)) r (listing_refusal s) (said_by (found_in s no_store)) (e ∙ by) in
+      roomy s t room ∙ rw f.0 (ap (λ (x : Refusal). refused_line x.number) (sym f.1))
 
-  module _ (z : h.refusal.number ≡ 0) where
+  module _ (h : Said) (e : Ok h ≡ header_reply (read_of s no_store a b)) where
+    both : (accepted (listing_refusal s) ≡ true) × (h ≡ said_by (found_in s no_store))
+    both = taken-as (accepted (listing_refusal s)) (listing_refusal s) (said_by (found_in s no_store)) h (e ∙ by)
+
     taken : accepted (read_refusal s no_store a b) ≡ true
-    taken = eq-eqb _ _ (ap (λ (x : Refusal). x.number) (whole ∙ sym own) ∙ z)
+    taken = ap accepted whole ∙ both.0
 
-    said : h ≡ found_in s no_store
-    unfolding read_of answer_by
-    said = e ∙ rw taken
+    said : h ≡ said_by (found_in s no_store)
+    said = both.1
 
     few : points_in s ≤ listed_room
     few = subst (λ (x : ℕ). points_in s ≤ x) la (points-fit s no_store a b (eqb-true _ _ taken))
 
     points-of : points_of h.grid ≡ points_in s
     unfolding found_in found_by parsed_of points_in
-    points-of = ap (λ (x : Header). points_of x.grid) said
+    points-of = ap (λ (x : Said). points_of x.grid) said
 
     listing_taken : accepted (listing_refusal s) ≡ true
-    listing_taken = eq-eqb _ _ (ap (λ (x : Refusal). x.number) (sym own) ∙ z)
+    listing_taken = both.0
 
     marks-at : (i : ℕ) → i < points_in s → get_or (marks_in s no_store) i 0 ≡ present_in s no_store i
     unfolding marks_in
@@ -191,7 +194,7 @@ module _ (s a b : List ℕ) (h : Header) (size : length s ≤ listed_most) (la :
           let g = shape_of h.grid in
           let n = points-of in
           roomy s t room ∙ rw listing_taken
-          (ap (λ (x : Header). the_first_line x ++ row_lines (present_in s no_store) (values_in s no_store) (shape_of x.grid))
+          (ap (λ (x : Said). the_first_line x ++ row_lines (present_in s no_store) (values_in s no_store) (shape_of x.grid))
           (sym said)
           ∙ ap (λ (x : List ℕ). the_first_line h ++ x)
           (rows_ext (present_in s no_store) (mark_of m) (values_in s no_store) v g

@@ -95,10 +95,8 @@ pub fn list(s: &[u8], text: &mut [u8]) -> u32
     }
     let mut values = [0u32; LISTED_ROOM];
     let mut marks = [0u8; LISTED_ROOM];
-    let h = read(s, 0, b"", &mut values, &mut marks);
-    let number = h.refusal.number;
-    if number != 0 {
-        return refused(text, number) as u32;
+    match read(s, 0, b"", &mut values, &mut marks) {
+        Ok(h) => lines(text, h, &values, &marks) as u32,
+        Err(r) => refused(text, r.number) as u32,
     }
-    lines(text, h, &values, &marks) as u32
 }

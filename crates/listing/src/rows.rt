@@ -8,7 +8,7 @@ ghost use Rattle.listing.specs.Text.{Wrote};
 use crate::text::{letter, number};
 use chart::{point_at, row_long, rows_on};
 use marks::present;
-use rules::{Pointed, Shape, Spot};
+use rules::{GridPoint, Shape, Spot};
 
 // The grid point at a row and a column of the chart.
 fn point(g: Shape, row: u32, column: u32) -> usize
@@ -18,8 +18,8 @@ fn point(g: Shape, row: u32, column: u32) -> usize
 {
     let p = point_at(g, Spot { row, column });
     match p {
-        Pointed::At(k) => k.0 as usize,
-        Pointed::Off => 0,
+        Some(k) => k.0 as usize,
+        None => 0,
     }
 }
 
@@ -55,11 +55,9 @@ fn row(text: &mut [u8], at: usize, values: &[u32], marks: &[u8], g: Shape, r: u3
 {
     let wide = row_long(g, r);
     let mut next = at;
-    let mut c: u32 = 0;
-    while c < wide {
+    for c in 0..wide {
         let i = point(g, r, c);
         next = cell(text, next, values, marks, i, stop(wide, c));
-        c += 1;
     }
     next
 }
@@ -71,12 +69,9 @@ pub(crate) fn rows(text: &mut [u8], at: usize, values: &[u32], marks: &[u8], g: 
     ensures { (Wrote text.old text.new at result
         (row_lines (mark_of marks.now) values.now g)) × (result ≤ at + the_points_on g * 11) }
 {
-    let high = rows_on(g);
     let mut next = at;
-    let mut r: u32 = 0;
-    while r < high {
+    for r in 0..rows_on(g) {
         next = row(text, next, values, marks, g, r);
-        r += 1;
     }
     next
 }

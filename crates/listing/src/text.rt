@@ -19,12 +19,10 @@ pub(crate) fn word(text: &mut [u8], at: usize, w: &[u8]) -> usize
     requires { at + length w.now ≤ length text.old }
     ensures { Wrote text.old text.new at result w.now }
 {
-    let mut i: usize = 0;
-    while i < w.len() {
+    for i in 0..w.len() {
         text[at + i] = w[i];
-        i += 1;
     }
-    at + i
+    at + w.len()
 }
 
 // 0 to 9, then a to f.
@@ -44,13 +42,11 @@ fn numeral(text: &mut [u8], at: usize, base: u64, c: usize, power: u64, n: u32) 
     ensures { Wrote text.old text.new at result (the_numeral base c n) }
 {
     let mut weight = power;
-    let mut j: usize = 0;
-    while j < c {
+    for j in 0..c {
         weight /= base;
         text[at + j] = digit(n as u64 / weight % base);
-        j += 1;
     }
-    at + j
+    at + c
 }
 
 // As many decimal digits as a number needs, at most ten.

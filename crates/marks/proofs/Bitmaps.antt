@@ -3,17 +3,18 @@ use mathlib.Core.Path.{◌≡◌, refl, sym, ap, ap₂, ◌∙◌, subst}
 use mathlib.Core.Bool.{true, false, cond}
 use mathlib.Core.List.{List, [], ◌∷◌, ◌++◌}
 use mathlib.Core.Logic.{⊎_elim}
-use Prim.Native.Nat.{ℕ, ◌+◌, ◌-◌, ◌*◌, ◌/◌, ◌%◌, ◌^◌, ◌≤◌, ◌<◌}
-use native.Mathlib.Nat.{zero-add, add-zero, zero-div, div-one}
+use Prim.Native.Nat.{ℕ, zero, suc, ◌+◌, ◌-◌, ◌*◌, ◌/◌, ◌%◌, ◌^◌, ◌≤◌, ◌<◌}
+use native.Mathlib.Nat.{zero-add, add-zero, mul-one, pow-suc, zero-div, div-one}
 use native.Mathlib.Numerals.{add-one}
 use native.Mathlib.Omega.{arith}
 use borrow.Author.Tests.{le-leb, lt-leb}
 use lib.Dec.{leb}
-use lib.ListN.{length, get_or, set, drop, get_or-eq_default}
+use lib.ListN.{length, get_or, set, take, drop, replicate, get_or-eq_default}
+use Rattle.std.proofs.lemmas.List.{take_at, drop_at, drop-drop, replicate-append-replicate, append_assoc, append-nil}
 use Rattle.bits.specs.Bits.{bit_of, bits_in, run, runs, placed}
 use Rattle.bits.specs.Tables.{tab}
 use Rattle.bits.proofs.Runs.{bits_in-bits, bits_at, run-below, lt_or_ge}
-use Rattle.bits.proofs.Fill.{length-tab, get_or-tab, tab_ext, fill}
+use Rattle.bits.proofs.Fill.{length-tab, get_or-tab, tab_ext}
 use Rattle.bits.proofs.Trip.{length_runs, runs_ext}
 use Rattle.bits.proofs.Placed.{run-zero}
 use Rattle.bits.proofs.Placing.{placed-none, length-placed, placed-next, set-placed}
@@ -54,6 +55,25 @@ pub octet-end : (marks : List ℕ) (m p j x : ℕ) → m ≤ p + j → x ≡ run
 unfolding run
 octet-end marks m p j x l e =
     rw add-one (sym (add-zero (x * 2)) ∙ ap₂ (λ (y z : ℕ). y * 2 + z) e (sym (bit-after marks m (p + j) l)))
+
+octet-ends : (marks : List ℕ) (m p j d x : ℕ) → (0 < d → m ≤ p + j) → x ≡ run (F marks m) p j
+    → x * 2 ^ d ≡ run (F marks m) p (j + d)
+octet-ends marks m p j zero x l e = mul-one x ∙ e ∙ ap (run (F marks m) p) (sym (add-zero j))
+octet-ends marks m p j (suc d) x l e =
+    let h : m ≤ p + j = l (omega arith) in
+    let s : j + d + 1 ≡ j + suc d = omega arith in
+    ap (λ (y : ℕ). x * y) (pow-suc 2 d) ∙ omega arith
+    ∙ octet-end marks m p (j + d) (x * 2 ^ d) (omega arith) (octet-ends marks m p j d x (λ _. h) e)
+    ∙ ap (run (F marks m) p) s
+
+-- an octet of c marks, moved to its front
+pub octet-full : (marks : List ℕ) (m p c x : ℕ) → c ≤ 8 → (c < 8 → m ≡ p + c) → x ≡ run (F marks m) p c
+    → (x * 2 ^ (8 - c) ≡ run (F marks m) p 8) × (x * 2 ^ (8 - c) < 256)
+octet-full marks m p c x l h e =
+    let s : c + (8 - c) ≡ 8 = omega arith in
+    let le : 0 < 8 - c → m ≤ p + c = λ k. let g : m ≡ p + c = h (omega arith) in omega arith in
+    let r : x * 2 ^ (8 - c) ≡ run (F marks m) p 8 = octet-ends marks m p c (8 - c) x le e ∙ ap (run (F marks m) p) s in
+    (r, subst (λ (y : ℕ). y < 256) (sym r) (run-below (bits_in-bits 1 (tab (mark_of marks) m)) p 8 8 (omega arith)))
 
 pub octet-lt : (marks : List ℕ) (m p j x : ℕ) → j < 8 → x ≡ run (F marks m) p j → x < 128
 octet-lt marks m p j x l e =
@@ -113,18 +133,36 @@ pub put-short : (marks out : List ℕ) (n k c : ℕ) → length out < k + c
 unfolding marks_put
 put-short marks out n k c h = let t : leb (k + c) (length out) ≡ false = lt-leb (k + c) (length out) h in (sym t, rw t)
 
--- marks filled: what a loop leaves that begins with i₀ of them put into d
-abbrev pub Marked : (ℕ → ℕ) → List ℕ → ℕ → List ℕ → ℕ → ℕ → Type 0
-Marked f out₀ i₀ out i n = (d : List ℕ) → n ≤ length d → out₀ ≡ tab f i₀ ++ drop i₀ d → out ≡ tab f i ++ drop i d
+-- the same mark for each point from m on, d of them
+tab_same : (f : ℕ → ℕ) (x m d : ℕ) → ((i : ℕ) → m ≤ i → i < m + d → f i ≡ x) → tab f (m + d) ≡ tab f m ++ replicate d x
+unfolding tab
+tab_same f x m zero h = ap (tab f) (add-zero m) ∙ sym (append-nil (tab f m))
+tab_same f x m (suc d) h =
+    let e : m + suc d ≡ suc (m + d) = omega arith in
+    let s : d + 1 ≡ suc d = omega arith in
+    ap (tab f) e
+    ∙ ap₂ (λ (t : List ℕ) (y : ℕ). t ++ (y ∷ [])) (tab_same f x m d (λ i a b. h i a (omega arith))) (h (m + d) (omega arith) (omega arith))
+    ∙ append_assoc (tab f m) (replicate d x) (x ∷ [])
+    ∙ ap (λ (t : List ℕ). tab f m ++ t) (replicate-append-replicate d 1 x ∙ ap (λ (n : ℕ). replicate n x) s)
 
-pub mark_turn : (f : ℕ → ℕ) (out₀ out : List ℕ) (i₀ i n x : ℕ) → i < n → x ≡ f i → Marked f out₀ i₀ out i n
-    → Marked f out₀ i₀ (set out i x) (i + 1) n
-mark_turn f out₀ out i₀ i n x l e m d k z =
-    ap₂ (λ (o : List ℕ) (y : ℕ). set o i y) (m d k z) e ∙ fill f i d (omega arith)
+pub filled_from : (f : ℕ → ℕ) (marks o y : List ℕ) (x m n k : ℕ) → m ≤ n → n ≤ length marks → o ≡ tab f m ++ drop m marks
+    → k ≡ n - m → y ≡ replicate k x → ((i : ℕ) → m ≤ i → i < n → f i ≡ x)
+    → take m o ++ (y ++ drop (n - m) (drop m o)) ≡ tab f n ++ drop n marks
+filled_from f marks o y x m n k l h e s p g =
+    let d : m + (n - m) ≡ n = omega arith in
+    ap₂ (λ (a b : List ℕ). a ++ (y ++ drop (n - m) b))
+    (ap (take m) e ∙ take_at (tab f m) (drop m marks) m (length-tab f m))
+    (ap (drop m) e ∙ drop_at (tab f m) (drop m marks) m (length-tab f m))
+    ∙ ap₂ (λ (a b : List ℕ). tab f m ++ (a ++ b)) (p ∙ ap (λ (j : ℕ). replicate j x) s) (drop-drop (n - m) m marks ∙ ap (λ (j : ℕ). drop j marks) d)
+    ∙ sym (append_assoc (tab f m) (replicate (n - m) x) (drop n marks))
+    ∙ ap (λ (t : List ℕ). t ++ drop n marks) (sym (tab_same f x m (n - m) (λ i a b. g i a (omega arith))) ∙ ap (tab f) d)
 
-pub marks-same : (f : ℕ → ℕ) (out₀ out : List ℕ) (i₀ i j n : ℕ) → i ≡ j → Marked f out₀ i₀ out i n
-    → Marked f out₀ i₀ out j n
-marks-same f out₀ out i₀ i j n e m = subst (λ (x : ℕ). Marked f out₀ i₀ out x n) e m
+pub filled : (f : ℕ → ℕ) (marks y : List ℕ) (x n k : ℕ) → k ≡ n → y ≡ replicate k x → ((i : ℕ) → i < n → f i ≡ x)
+    → y ++ drop n marks ≡ tab f n ++ drop n marks
+unfolding tab
+filled f marks y x n k s p g =
+    ap (λ (t : List ℕ). t ++ drop n marks)
+    (p ∙ ap (λ (j : ℕ). replicate j x) s ∙ sym (tab_same f x 0 n (λ i a b. g i (omega arith))) ∙ ap (tab f) (zero-add n))
 
 -- from a bitmap
 abbrev pub G : List ℕ → ℕ → ℕ → ℕ

@@ -3,7 +3,6 @@
 use mathlib.Core.Path.{◌≡◌, refl, sym, ap, ap₂, ◌∙◌, subst}
 use mathlib.Core.Bool.{Bool, true, false, not, cond, ◌&&◌, ◌||◌}
 use mathlib.Core.List.{List}
-use mathlib.Core.Logic.{⊎_elim}
 use Prim.Native.Nat.{ℕ, zero, suc, ◌+◌, ◌-◌, ◌*◌, ◌/◌, ◌%◌, ◌^◌, ◌≤◌, ◌<◌}
 use native.Mathlib.Nat.{zero-add, add-zero, add-suc}
 use native.Mathlib.Numerals.{add-one}
@@ -13,26 +12,13 @@ use lib.Dec.{T, ltb, leb, eqb}
 use lib.ListN.{length, get_or, get_or-eq_default}
 use Rattle.bits.specs.Bits.{bit_of, bits_in, count}
 use Rattle.bits.specs.Tables.{any_below}
-use Rattle.bits.proofs.Runs.{Bits, lt_or_ge}
+use Rattle.bits.proofs.Runs.{Bits}
 use Rattle.bits.proofs.Ones.{count-le, count-split, count-zero}
 use Rattle.bits.proofs.Below.{any_none, any_next, none_below}
 use Rattle.widths.proofs.Lists.{below-least}
 use Rattle.rules.specs.Bitmap.{mark_of, mark_odd, value_of}
 use Rattle.laws.specs.Marks.{here}
 use Rattle.marks.specs.Marks.{the_all_present, the_none_marked, strays, marks_differ}
-
--- a turn leaves less, and stays inside; and the bits inside, as the code finds them
-pub left_less : (e i : ℕ) → i < e → e - (i + 1) < e - i
-left_less e i l = omega arith
-
-pub step_in : (e i : ℕ) → i < e → i + 1 ≤ e
-step_in e i l = omega arith
-
-pub inside_is : (n o d a r : ℕ) → o ≡ (n + 7) / 8 → a ≡ o - (o - d) → r ≡ n - (n - a * 8) → r ≡ n - (n - d * 8)
-inside_is n o d a r s e f = ⊎_elim
-    (λ (l : o < d). let g : a ≡ o = omega (arith, l) in omega (arith, l))
-    (λ (l : d ≤ o). let g : a ≡ d = omega (arith, l) in f ∙ ap (λ (x : ℕ). n - (n - x * 8)) g)
-    (lt_or_ge o d)
 
 pub mark-past : (marks : List ℕ) (i : ℕ) → length marks ≤ i → mark_of marks i ≡ 0
 mark-past marks i h = get_or-eq_default marks 0 h

@@ -34,11 +34,3 @@ marked_by present n marks = cond (leb n (length marks)) (tab present n ++ drop n
 -- r is the octet of the c marks from point p on, eight or the last of m points, and zeros after them
 abbrev pub OctetOf : List ℕ → ℕ → ℕ → ℕ → Type 0
 OctetOf marks p c r = (m : ℕ) → p + c ≤ m → (c < 8 → m ≡ p + c) → r ≡ run (bits_in 1 (tab (mark_of marks) m)) p 8
-
--- the mark x put for each point from `from` on, up to the nth: where x is what f says there, and the marks before were
--- put so, all n are
-abbrev pub FillsOn : ℕ → ℕ → ℕ → List ℕ → List ℕ → Type 0
-FillsOn x from n marks₀ marks =
-    (f : ℕ → ℕ) (d : List ℕ) → ((i : ℕ) → from ≤ i → i < n → x ≡ f i) → n ≤ length d
-    → marks₀ ≡ tab f from ++ drop from d
-    → marks ≡ tab f n ++ drop n d

@@ -7,16 +7,6 @@ ghost use Rattle.marks.specs.Marks.{the_all_present, the_none_marked, strays, ma
 
 use octets::at;
 
-// The lesser of two.
-pub(crate) fn within(n: usize, len: usize) -> usize
-    ensures { result ≡ n - (n - len) }
-{
-    if len < n {
-        return len;
-    }
-    n
-}
-
 // How many of the n bits from octet k on lie inside so many octets.
 pub(crate) fn inside(len: usize, k: usize, n: u32) -> usize
     ensures { result ≡ n - (n - (len - k) * 8) }
@@ -24,7 +14,7 @@ pub(crate) fn inside(len: usize, k: usize, n: u32) -> usize
     if len < k {
         return 0;
     }
-    within(n as usize, within((n as usize + 7) / 8, len - k) * 8)
+    (n as usize).min(((n as usize + 7) / 8).min(len - k) * 8)
 }
 
 // 1 for a present point, 0 for an absent one.
@@ -44,10 +34,8 @@ fn some_present(marks: &[u8], p: usize, c: usize) -> u8
     ensures { result ≡ ones (here marks.now) p c }
 {
     let mut m: u8 = 0;
-    let mut i: usize = 0;
-    while i < c {
+    for i in 0..c {
         m += one(marks[p + i]);
-        i += 1;
     }
     m
 }
@@ -70,14 +58,12 @@ pub fn present(marks: &[u8], i: usize) -> bool
 pub fn count(marks: &[u8], n: u32) -> u32
     ensures { result ≡ ones (here marks.now) 0 n }
 {
-    let end = within(n as usize, marks.len());
+    let end = (n as usize).min(marks.len());
     let mut m: u32 = 0;
-    let mut i: usize = 0;
-    while end - i >= 128 {
-        m += some_present(marks, i, 128) as u32;
-        i += 128;
+    for g in 0..end / 128 {
+        m += some_present(marks, g * 128, 128) as u32;
     }
-    m + some_present(marks, i, end - i) as u32
+    m + some_present(marks, end - end % 128, end % 128) as u32
 }
 
 // Whether each of n points is present.
@@ -87,12 +73,9 @@ pub fn all_present(marks: &[u8], n: u32) -> bool
     if marks.len() < n as usize {
         return false;
     }
-    let end = n as usize;
     let mut gap = false;
-    let mut i: usize = 0;
-    while i < end {
-        gap = gap | !(marks[i] == 1);
-        i += 1;
+    for mark in &marks[..n as usize] {
+        gap = gap | !(*mark == 1);
     }
     !gap
 }
@@ -101,12 +84,9 @@ pub fn all_present(marks: &[u8], n: u32) -> bool
 pub fn none_marked(marks: &[u8], n: usize) -> bool
     ensures { result ≡ the_none_marked marks.now n }
 {
-    let end = within(n, marks.len());
     let mut some = false;
-    let mut i: usize = 0;
-    while i < end {
-        some = some | (marks[i] != 0);
-        i += 1;
+    for mark in &marks[..n.min(marks.len())] {
+        some = some | (*mark != 0);
     }
     !some
 }
@@ -115,12 +95,9 @@ pub fn none_marked(marks: &[u8], n: usize) -> bool
 pub fn odd(marks: &[u8], n: u32) -> bool
     ensures { result ≡ mark_odd marks.now n }
 {
-    let end = within(n as usize, marks.len());
     let mut all: u8 = 0;
-    let mut i: usize = 0;
-    while i < end {
-        all = all | marks[i];
-        i += 1;
+    for mark in &marks[..(n as usize).min(marks.len())] {
+        all = all | *mark;
     }
     1 < all
 }
@@ -129,17 +106,14 @@ pub fn odd(marks: &[u8], n: u32) -> bool
 pub fn stray(values: &[u32], marks: &[u8], n: u32) -> bool
     ensures { result ≡ strays values.now marks.now n }
 {
-    let end = within(n as usize, values.len());
-    let marked = within(end, marks.len());
+    let end = (n as usize).min(values.len());
+    let marked = end.min(marks.len());
     let mut bad = false;
-    let mut i: usize = 0;
-    while i < marked {
+    for i in 0..marked {
         bad = bad | ((marks[i] == 0) & (values[i] != 0));
-        i += 1;
     }
-    while i < end {
+    for i in marked..end {
         bad = bad | (values[i] != 0);
-        i += 1;
     }
     bad
 }
@@ -148,17 +122,13 @@ pub fn stray(values: &[u32], marks: &[u8], n: u32) -> bool
 pub fn unlike(map: &[u8], k: usize, marks: &[u8], n: u32) -> bool
     ensures { result ≡ marks_differ map.now k marks.now n }
 {
-    let both = within(inside(map.len(), k, n), marks.len());
-    let end = n as usize;
+    let both = inside(map.len(), k, n).min(marks.len());
     let mut bad = false;
-    let mut i: usize = 0;
-    while i < both {
+    for i in 0..both {
         bad = bad | ((map[k + i / 8] >> (7 - i % 8)) % 2 != marks[i]);
-        i += 1;
     }
-    while i < end {
+    for i in both..n as usize {
         bad = bad | ((at(map, k, i / 8) >> (7 - i % 8)) % 2 != at(marks, i, 0));
-        i += 1;
     }
     bad
 }

@@ -3,9 +3,9 @@ ghost use Rattle.std.specs.Prelude.{◌≡◌, ◌++◌, ◌+◌, ◌-◌, ◌*�
 ghost use Rattle.bits.specs.Bits.{bits_in, run, runs, placed};
 ghost use Rattle.bits.specs.Tables.{tab};
 ghost use Rattle.rules.specs.Bitmap.{mark_of};
-ghost use Rattle.marks.specs.Marks.{marks_put, marked_by, OctetOf, FillsOn};
+ghost use Rattle.marks.specs.Marks.{marks_put, marked_by, OctetOf};
 
-use crate::judging::{inside, within};
+use crate::judging::inside;
 
 // The octet of the c marks from point p on, eight or the last of m points, and zeros after them.
 fn octet_of(marks: &[u8], p: usize, c: usize) -> u8
@@ -13,16 +13,10 @@ fn octet_of(marks: &[u8], p: usize, c: usize) -> u8
     ensures { OctetOf marks.now p c result }
 {
     let mut x: u8 = 0;
-    let mut j: usize = 0;
-    while j < c {
+    for j in 0..c {
         x = x * 2 + marks[p + j] % 2;
-        j += 1;
     }
-    while j < 8 {
-        x = x * 2;
-        j += 1;
-    }
-    x
+    ((x as u32) << (8 - c)) as u8
 }
 
 // Octet g of those of m marks, after the whole ones.
@@ -43,15 +37,12 @@ fn put_inside(marks: &[u8], m: usize, out: &mut [u8], k: usize, c: usize)
     ensures { out.new ≡
         placed out.old k (runs (bits_in 1 (tab (mark_of marks.now) m)) 0 8 c) }
 {
-    let whole = within(m / 8, c);
-    let mut g: usize = 0;
-    while g < whole {
+    let whole = c.min(m / 8);
+    for g in 0..whole {
         out[k + g] = octet_of(marks, g * 8, 8);
-        g += 1;
     }
-    while g < c {
+    for g in whole..c {
         out[k + g] = octet_after(marks, m, g);
-        g += 1;
     }
 }
 
@@ -63,7 +54,7 @@ pub fn put(marks: &[u8], n: u32, out: &mut [u8], k: usize, c: usize) -> bool
 {
     if k <= out.len() {
         if c <= out.len() - k {
-            put_inside(marks, within(n as usize, marks.len()), out, k, c);
+            put_inside(marks, marks.len().min(n as usize), out, k, c);
             return true;
         }
     }
@@ -77,33 +68,14 @@ fn fill_inside(map: &[u8], k: usize, m: usize, marks: &mut [u8])
     ensures { marks.new ≡
         tab (λ i. bits_in 8 map.now (k * 8 + i)) m ++ drop m marks.old }
 {
-    let mut g: usize = 0;
-    while g < m / 8 {
+    for g in 0..m / 8 {
         let b = map[k + g];
-        let mut j: usize = 0;
-        while j < 8 {
+        for j in 0..8 {
             marks[g * 8 + j] = (b >> (7 - j)) % 2;
-            j += 1;
         }
-        g += 1;
     }
-    let mut i = g * 8;
-    while i < m {
+    for i in m / 8 * 8..m {
         marks[i] = (map[k + i / 8] >> (7 - i % 8)) % 2;
-        i += 1;
-    }
-}
-
-// The mark x for each point from `from` on, up to the nth.
-fn fill_same(x: u8, from: usize, n: usize, marks: &mut [u8])
-    requires from_le_n { from ≤ n }
-    requires n_in_bounds { n ≤ length marks.old }
-    ensures { FillsOn x from n marks.old marks.new }
-{
-    let mut i = from;
-    while i < n {
-        marks[i] = x;
-        i += 1;
     }
 }
 
@@ -117,7 +89,7 @@ pub fn fill(map: &[u8], k: usize, n: u32, marks: &mut [u8]) -> bool
     if n as usize <= marks.len() {
         let m = inside(map.len(), k, n);
         fill_inside(map, k, m, marks);
-        fill_same(0, m, n as usize, marks);
+        marks[m..n as usize].fill(0);
         return true;
     }
     false
@@ -129,7 +101,7 @@ pub fn fill_all(n: u32, marks: &mut [u8]) -> bool
     ensures marks_after { marks.new ≡ marked_by (λ _. 1) n marks.old }
 {
     if n as usize <= marks.len() {
-        fill_same(1, 0, n as usize, marks);
+        marks[..n as usize].fill(1);
         return true;
     }
     false

@@ -1,46 +1,43 @@
--- What a header says of its message: where its refusal is 0, each field is the message's own; by the definition's two
--- cases.
-use mathlib.Core.Path.{◌≡◌, refl, sym, ap, ◌∙◌, subst}
-use mathlib.Core.Bool.{Bool, true, false, cond}
-use mathlib.Core.List.{List}
-use Prim.Native.Nat.{ℕ, ◌≤◌}
+-- What a header says of its message: where it is answered, each field is the message's own, and where it is refused the
+-- refusal is; by the definition's two cases.
+use Rattle.std.proofs.Common.{◌≡◌, ◌∙◌, ◌≤◌, refl, sym, ap, subst, Bool, true, false, cond, List, ℕ}
+use Rattle.std.specs.Prelude.{Result, Ok, Err}
 use lib.Dec.{T}
-use borrow.Author.Tests.{eq-eqb, ne_eqb}
 use Rattle.rules.specs.declared.{Refusal.Refusal, Packing.Packing, Header.Header}
 use Rattle.rules.specs.Bounds.{the_bits_most}
 use Rattle.rules.specs.Table.{refusal, accepted}
+use Rattle.rules.specs.Answers.{replied, said_by, header_reply}
 use Rattle.rules.specs.Places.{places_of}
 use Rattle.rules.specs.Grid.{grid_or_zeros}
 use Rattle.rules.specs.Bitmap.{Lent}
-use Rattle.rules.specs.Reading.{parsed_of, found_by, found_in, refused_by, own_refusal, answer_by, header_of, grid_of, bitmap_in}
+use Rattle.rules.specs.Reading.{parsed_of, found_by, found_in, own_refusal, header_of, grid_of, bitmap_in}
 use Rattle.rules.specs.Reading.{points_in, present_count, packing_in, the_scale_in}
-use Rattle.laws.proofs.Judged.{own-zero}
 use Rattle.laws.proofs.Data.{data_narrow}
+use Rattle.message.proofs.Laws.{by-own}
 
--- the refusal in a header is the message's own
-pub refusal-by : (b : Bool) (r : Refusal) (x : Header) → x.refusal ≡ refusal 0 → (accepted r ≡ true → r ≡ refusal 0)
-    → accepted r ≡ b → (cond b x (refused_by r)).refusal ≡ r
-unfolding refused_by
-refusal-by true r x e z h = e ∙ sym (z h)
-refusal-by false r x e z h = refl
+-- of a reply the two cases
+pub refused-as : {A : Type 0} (b : Bool) (r q : Refusal) (x : A) → Err r ≡ cond b (Ok x) (Err q) → (b ≡ false) × (r ≡ q)
+refused-as true r q x e = absurd (cc e)
+refused-as false r q x e = (refl, cc)
 
-module _ (s : List ℕ) (lent : Lent) (h : Header) (e : h ≡ header_of s lent) where
-  pub own : h.refusal ≡ own_refusal s lent
-  unfolding header_of answer_by found_in found_by
-  own =
-      ap (λ (x : Header). x.refusal) e
-      ∙ refusal-by (accepted (own_refusal s lent)) (own_refusal s lent) (found_in s lent) refl (own-zero s lent) refl
+pub taken-as : {A : Type 0} (b : Bool) (q : Refusal) (x h : A) → Ok h ≡ cond b (Ok x) (Err q) → (b ≡ true) × (h ≡ x)
+taken-as true q x h e = (refl, cc)
+taken-as false q x h e = absurd (cc e)
 
-  pub refused : (h.refusal.number ≡ 0 → ⊥) → accepted (own_refusal s lent) ≡ false
-  refused z = ne_eqb _ _ (λ (q : (own_refusal s lent).number ≡ 0). z (ap (λ (x : Refusal). x.number) own ∙ q))
+module _ (s : List ℕ) (lent : Lent) where
+  -- the refusal is the message's own
+  pub refused : (r : Refusal) → Err r ≡ header_reply (header_of s lent) → (accepted (own_refusal s lent) ≡ false) × (r ≡ own_refusal s lent)
+  refused r e = refused-as (accepted (own_refusal s lent)) r (own_refusal s lent) (said_by (found_in s lent)) (e ∙ by-own s lent)
 
-  module _ (z : h.refusal.number ≡ 0) where
+  module _ (h : Header) (e : Ok h ≡ header_reply (header_of s lent)) where
+    both : (accepted (own_refusal s lent) ≡ true) × (h ≡ said_by (found_in s lent))
+    both = taken-as (accepted (own_refusal s lent)) (own_refusal s lent) (said_by (found_in s lent)) h (e ∙ by-own s lent)
+
     pub taken : accepted (own_refusal s lent) ≡ true
-    taken = eq-eqb _ _ (ap (λ (x : Refusal). x.number) (sym own) ∙ z)
+    taken = both.0
 
-    pub said : h ≡ found_in s lent
-    unfolding header_of answer_by
-    said = e ∙ rw taken
+    pub said : h ≡ said_by (found_in s lent)
+    said = both.1
 
     pub places-of : h.places ≡ places_of s
     unfolding found_in found_by parsed_of

@@ -23,14 +23,6 @@ pub from-pole : (i : ℕ) → i < octant_rows → get_or the_from_equator (octan
 unfolding unlike any_below counts_of the_from_equator
 from-pole i h = is_eq _ _ (none_below unlike octant_rows refl i h)
 
-pub from-equator : (i : ℕ) → get_or the_from_equator i 0 ≡ get_or (counts_of Equator) i 0
-unfolding counts_of
-from-equator i = refl
-
-pub from-neither : (i : ℕ) → 0 ≡ get_or (counts_of Neither) i 0
-unfolding counts_of
-from-neither i = refl
-
 pub rows_few : (f : Start) → length (counts_of f) ≤ octant_rows
 unfolding counts_of the_from_equator
 rows_few Equator = omega arith
@@ -69,14 +61,6 @@ pub before-pole : (i : ℕ) → i ≤ octant_rows
     → octant_points - the_before_row the_from_equator (octant_rows - i) ≡ the_before_row (counts_of Pole) i
 unfolding unturned any_below counts_of the_from_equator the_before_row
 before-pole i h = is_eq _ _ (none_below unturned (octant_rows + 1) refl i (omega arith))
-
-pub before-equator : (i : ℕ) → the_before_row the_from_equator i ≡ the_before_row (counts_of Equator) i
-unfolding counts_of
-before-equator i = refl
-
-pub before-neither : (i : ℕ) → 0 ≡ the_before_row (counts_of Neither) i
-unfolding counts_of the_before_row
-before-neither i = refl
 
 pub before-few : (i : ℕ) → the_before_row the_from_equator i ≤ octant_points
 unfolding counts_of

@@ -36,6 +36,7 @@ fn from_equator(i: usize) -> u8
 }
 
 // How many points row j has; 0 past the last.
+#[tactic(auto, unfolding(rules::specs::Counts::counts_of))]
 pub fn count(start: Start, j: u32) -> u32
     ensures { result ≡ get_or (counts_of start) j 0 }
 {
@@ -50,6 +51,7 @@ pub fn count(start: Start, j: u32) -> u32
 }
 
 // How many rows there are.
+#[tactic(auto, unfolding(rules::specs::Counts::counts_of, rules::specs::Counts::the_from_equator))]
 pub fn rows(start: Start) -> u32
     ensures { result ≡ length (counts_of start) }
 {
@@ -76,9 +78,8 @@ pub fn scanned(start: Start, k: u32) -> Spot
     ensures { result ≡ record { row = row_of (counts_of start) k; column = in_row (counts_of start) k } }
 {
     let high = rows(start);
-    let mut j = 0u32;
     let mut left = k;
-    while j < high {
+    for j in 0..high {
         let c = count(start, j);
         if left < c {
             return Spot {
@@ -87,10 +88,9 @@ pub fn scanned(start: Start, k: u32) -> Spot
             };
         }
         left -= c;
-        j += 1;
     }
     Spot {
-        row: j,
+        row: high,
         column: left,
     }
 }
@@ -104,6 +104,7 @@ fn before_equator(i: usize) -> u16
 }
 
 // How many points stand before row j; past the last row all do. From the pole these are the rows at the table's end.
+#[tactic(auto, unfolding(rules::specs::Counts::counts_of, rules::specs::Counts::the_before_row))]
 pub fn before_row(start: Start, j: u32) -> u32
     ensures { result ≡ the_before_row (counts_of start) j }
 {

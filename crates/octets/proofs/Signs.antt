@@ -1,16 +1,12 @@
--- Signs at 32 bits: a magnitude negated fits, and is what the machine reads back; a magnitude compared, and taken off
--- again.
-use Prim.Native.Nat.{ℕ, zero, suc, ◌+◌, ◌-◌, ◌*◌, ◌<◌, ◌≤◌, ◌^◌}
-use mathlib.Core.Bool.{cond, true, false, ◌&&◌}
+-- Signs at 32 bits: a magnitude negated fits, and is what the machine reads back.
+use Prim.Native.Nat.{ℕ, zero, suc, ◌+◌, ◌-◌, ◌*◌, ◌<◌, ◌^◌}
+use mathlib.Core.Bool.{cond}
 use lib.Dec.{ltb}
-use borrow.Author.Tests.{lt-ltb, le-ltb, ltb-true}
-use mathlib.Core.Path.{◌≡◌, refl, sym, ap, ◌∙◌, subst}
+use mathlib.Core.Path.{◌≡◌, sym, ap, ◌∙◌, subst}
 use native.Mathlib.Omega.{arith}
-use native.Mathlib.Nat.{zero-add, pow-suc}
+use native.Mathlib.Nat.{pow-suc}
 use lib.IntN.{ℤ, pos, negsuc, neg_ℤ, nat_abs, ◌-ℤ◌, +ℤ_idl}
-use lib.Signed.{mag, lt_z}
-use mathlib.Core.Logic.{⊎_elim}
-use Rattle.bits.proofs.Runs.{lt_or_ge}
+use lib.Signed.{mag}
 use Rattle.rules.specs.declared.{Signed.Signed}
 use Rattle.rules.specs.Numbers.{sign, plain, spelled_value}
 use mir.Syntax.{w32}
@@ -39,35 +35,6 @@ back half v b r e f h =
 -- a signed field of a number handed on in 32 bits
 pub kept : (z : ℤ) (r : Signed) → r ≡ plain (to_z w32 (of_z w32 z)) → SFits w32 z → r ≡ plain z
 kept z r e h = e ∙ ap plain (to_z-of_z h)
-
-pub low : (half v : ℕ) → v < half → half ≤ 2147483648 → to_z w32 v ≡ cond (ltb v half) (pos v) (neg_ℤ (pos (v - half)))
-low half v h l = rw (lt-ltb v half h) (to_z_pos w32 (omega arith))
-
-pub high : (half v : ℕ) → half ≤ v → v - half < 2147483648
-    → to_z w32 (of_z w32 (pos 0 -ℤ to_z w32 (v - half))) ≡ cond (ltb v half) (pos v) (neg_ℤ (pos (v - half)))
-high half v h l = rw (le-ltb v half h) (neg_back (v - half) l)
-
--- a magnitude below h, by two comparisons
-pub small_is : (h : ℕ) (z : ℤ) → 0 < h → lt_z (neg_ℤ (pos h)) z && lt_z z (pos h) ≡ ltb (nat_abs z) h
-small_is zero z l = absurd (omega arith)
-small_is (suc h) (pos n) l = refl
-small_is (suc h) (negsuc n) l = ⊎_elim
-    (λ q. rw (lt-ltb n h q, lt-ltb (suc n) (suc h) (omega arith)))
-    (λ q. rw (le-ltb n h q, le-ltb (suc n) (suc h) (omega arith)))
-    (lt_or_ge n h)
-
--- what the sign writes, as the machine takes the magnitude off
-pub below-zero : (z : ℤ) → lt_z z (pos 0) ≡ true → pos 0 -ℤ z ≡ pos (nat_abs z)
-below-zero (pos n) t = absurd (omega (arith, ltb-true n 0 t))
-below-zero (negsuc n) t = ap pos (zero-add (suc n))
-
-pub above_zero : (z : ℤ) → lt_z z (pos 0) ≡ false → z ≡ pos (nat_abs z)
-above_zero (pos n) t = refl
-above_zero (negsuc n) t = let e : ◌≡◌ {A = ℕ} 0 1 = cc in absurd (omega arith)
-
-pub below_word : (z : ℤ) → SFits w32 z → lt_z z (pos 0) ≡ true → nat_abs z < 2147483648
-    → to_z w32 (of_z w32 (pos 0 -ℤ to_z w32 (of_z w32 z))) ≡ pos (nat_abs z)
-below_word z f t b = simp (to_z-of_z f, below-zero z t) (to_z_pos w32 b)
 
 -- the spelling of a number whose magnitude leaves the sign bit free has c octets
 pub spelled-lt : (c : ℕ) (z : ℤ) → 0 < c → nat_abs z < sign c → spelled_value c z < 2 ^ (c * 8)

@@ -1,6 +1,6 @@
 // Numbers of one to four octets, high octet first, and signed fields of two and three. All are total: past the end an
 // octet reads 0.
-ghost use Rattle.std.specs.Prelude.{◌≡◌, ◌+◌, ◌-◌, ◌*◌, ◌<◌, ◌≤◌, get_or, cond, ltb, pos, neg_ℤ};
+ghost use Rattle.std.specs.Prelude.{◌≡◌, ◌+◌, ◌-◌, ◌*◌, ◌^◌, ◌<◌, ◌≤◌, get_or, cond, ltb, pos, neg_ℤ};
 ghost use Rattle.bits.specs.Bits.{run, bits_in};
 ghost use Rattle.rules.specs.Numbers.{octet as the_octet, plain as the_plain, signed as the_signed};
 
@@ -32,29 +32,38 @@ pub fn octet(s: &[u8], p: usize, k: u8) -> u8
     at(s, p, offset(k))
 }
 
+// The number in the C octets from octet k on. C is a constant, so that the compiler writes the few octets out.
+fn number<const C: usize>(s: &[u8], p: usize, k: u8) -> u32
+    requires few { C ≤ 4 }
+    ensures value { result ≡ run (bits_in 8 s.now) ((p + (k - 1)) * 8) (C * 8) }
+    ensures fits { result < 2 ^ (C * 8) }
+{
+    let mut x: u32 = 0;
+    for j in 0..C {
+        x = x * 256 + at(s, p, offset(k) + j) as u32;
+    }
+    x
+}
+
 // The number in octets k and k + 1.
 pub fn two(s: &[u8], p: usize, k: u8) -> u16
     ensures { result ≡ run (bits_in 8 s.now) ((p + (k - 1)) * 8) 16 }
 {
-    let j = offset(k);
-    at(s, p, j) as u16 * 256 + at(s, p, j + 1) as u16
+    number::<2>(s, p, k) as u16
 }
 
 // The number in octets k to k + 2.
 pub fn three(s: &[u8], p: usize, k: u8) -> u32
     ensures { result ≡ run (bits_in 8 s.now) ((p + (k - 1)) * 8) 24 }
 {
-    let j = offset(k);
-    (at(s, p, j) as u32 * 256 + at(s, p, j + 1) as u32) * 256 + at(s, p, j + 2) as u32
+    number::<3>(s, p, k)
 }
 
 // The number in octets k to k + 3.
 pub fn four(s: &[u8], p: usize, k: u8) -> u32
     ensures { result ≡ run (bits_in 8 s.now) ((p + (k - 1)) * 8) 32 }
 {
-    let j = offset(k);
-    ((at(s, p, j) as u32 * 256 + at(s, p, j + 1) as u32) * 256 + at(s, p, j + 2) as u32) * 256
-        + at(s, p, j + 3) as u32
+    number::<4>(s, p, k)
 }
 
 // A number whose sign bit is worth half, and the rest a magnitude.

@@ -4,7 +4,7 @@
 #![tactic(auto)]
 
 ghost use Rattle.std.specs.Prelude.{◌≡◌};
-ghost use Rattle.rules.specs.Table.{first};
+ghost use Rattle.rules.specs.Answers.{judged, length_reply};
 ghost use Rattle.rules.specs.Writing.{write_of, output_after};
 ghost use Rattle.rules.specs.Packing.{pack_of, packed_after};
 ghost use Rattle.writable.specs.Listed.{Listed};
@@ -22,29 +22,30 @@ use layout::SEVENS;
 use octets::{plain, signed_two};
 use puts::put_four;
 use putting::put_scaled;
-use reply::{last, refuse, unwritten, written};
+use reply::{refusal, refuse};
 use rules::bounds::STEP_MOST;
-use rules::{Form, Packing, Refusal, Scale, Written};
+use rules::{Form, Packing, Refusal, Scale};
 use scaling::Choice;
 use source::{decimal_differs, source_bad, spelling};
 use writable::{judge_marks, pds_bad};
 
 // 5, 18, 15 and 11: the PDS, the source, D of both, and the packing.
-fn judge_source(pds: &[u8], packing: Packing, numbers: &[i32], marks: &[u8], d: i32) -> Refusal
+#[tactic(auto, unfolding(rules::specs::Answers::judged, crate::specs::Scaled::pack_rows))]
+fn judge_source(
+    pds: &[u8],
+    packing: Packing,
+    numbers: &[i32],
+    marks: &[u8],
+    d: i32,
+) -> Result<(), Refusal>
     ensures { result ≡
-        first (pack_rows pds.now packing (source_as numbers.now marks.now d)) }
+        judged (pack_rows pds.now packing (source_as numbers.now marks.now d)) }
 {
     let own = signed_two(pds, 0, 27);
-    let later = refuse(
-        15,
-        decimal_differs(own.value, d),
-        last(11, packing_bad(packing)),
-    );
-    refuse(
-        5,
-        pds_bad(pds),
-        refuse(18, source_bad(numbers, marks), later),
-    )
+    refuse(5, pds_bad(pds))?;
+    refuse(18, source_bad(numbers, marks))?;
+    refuse(15, decimal_differs(own.value, d))?;
+    refuse(11, packing_bad(packing))
 }
 
 // Writes the message of the list of X for an R and an E.
@@ -58,14 +59,15 @@ fn write_scaled(
     marks: &[u8],
     choice: Choice,
     out: &mut [u8],
-) -> Written
+) -> Result<u32, Refusal>
     requires { Listed (scaled_from numbers.now marks.now choice.reference choice.exponent) marks.now
         form.packing.bits }
     ensures value { result ≡
-        write_of
+        length_reply
+        (write_of
         (parts pds.now form scale number store.now
         (scaled_from numbers.now marks.now choice.reference choice.exponent)
-        marks.now) out.old }
+        marks.now) out.old) }
     ensures out_after { out.new ≡
         output_after
         (parts pds.now form scale number store.now
@@ -75,7 +77,7 @@ fn write_scaled(
     let grid = form.grid;
     let found = grid_from(grid, pds, 0);
     let n = points(the_grid(found));
-    let refusal = judge_marks(
+    judge_marks(
         pds,
         form,
         scale,
@@ -85,14 +87,10 @@ fn write_scaled(
         marks,
         found,
         n,
-    );
-    if refusal.number != 0 {
-        return unwritten(refusal);
-    }
-    let frame = lay(pds, form, scale, marks, n, out);
-    if frame.len == 0 {
-        return written(14, 0);
-    }
+    )?;
+    let Some(frame) = lay(pds, form, scale, marks, n, out) else {
+        return Err(refusal(14));
+    };
     let at = frame.at;
     let end = frame.len as usize - 4;
     put_scaled(
@@ -104,7 +102,7 @@ fn write_scaled(
         &mut out[at..],
     );
     put_four(out, end, 1, SEVENS);
-    written(0, frame.len)
+    Ok(frame.len)
 }
 
 // Packs a source field, V and marks at a D, into a message of a PDS, a form and the lent bitmap of a number. Answers
@@ -118,23 +116,21 @@ pub fn pack(
     marks: &[u8],
     d: i32,
     out: &mut [u8],
-) -> Written
+) -> Result<u32, Refusal>
     ensures value { result ≡
-        pack_of pds.now form (lent_as number store.now)
-        (source_as numbers.now marks.now d) out.old }
+        length_reply
+        (pack_of pds.now form (lent_as number store.now)
+        (source_as numbers.now marks.now d) out.old) }
     ensures out_after { out.new ≡
         packed_after pds.now form (lent_as number store.now)
         (source_as numbers.now marks.now d) out.old }
 {
     let packing = form.packing;
-    let early = judge_source(pds, packing, numbers, marks, d);
-    if early.number != 0 {
-        return unwritten(early);
-    }
+    judge_source(pds, packing, numbers, marks, d)?;
     let choice = scaling::choose(numbers, marks, packing.bits);
     let e = choice.exponent;
     if (STEP_MOST as u8) < e {
-        return written(19, 0);
+        return Err(refusal(19));
     }
     let r = choice.reference;
     let scale = Scale {

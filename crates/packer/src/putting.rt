@@ -6,11 +6,10 @@ ghost use Rattle.rules.specs.Bounds.{the_bits_most};
 ghost use Rattle.rules.specs.Bitmap.{mark_of, value_of};
 ghost use Rattle.rules.specs.Points.{gathered};
 ghost use Rattle.writable.specs.Listed.{Listed};
-ghost use Rattle.blocks.specs.Block.{block_length, held_room};
 ghost use Rattle.steps.specs.Steps.{step_of};
 ghost use Rattle.packer.specs.Scaled.{scaled_from};
 
-use blocks::{BLOCK, Progress, ROOM, block_of, put_block, put_last};
+use blocks::{BLOCK, Progress, ROOM, put_block, put_last};
 use scaling::Choice;
 use steps::scale;
 
@@ -21,13 +20,12 @@ fn put_points(
     r: i32,
     e: u8,
     bits: u8,
-    xs: &mut [u32],
-    held: &mut [u32],
+    xs: &mut [u32; BLOCK],
+    held: &mut [u32; ROOM],
     out: &mut [u8],
 )
     requires bits_le_bits_most { bits ≤ the_bits_most }
     requires listed { Listed (scaled_from numbers.now marks.now r e) marks.now bits }
-    requires xs_len { (length xs.old ≡ block_length) × (length held.old ≡ held_room) }
     requires bits_in_bounds { count (mark_of marks.now) 0 (length numbers.now) * bits / 8 + 4 ≤ length out.old }
     ensures { out.new ≡
         packed_into bits
@@ -35,29 +33,32 @@ fn put_points(
         (length numbers.now)) out.old }
 {
     let mut progress = Progress { place: 0, held: 0 };
-    let mut i: usize = 0;
-    while i < numbers.len() {
-        let m = block_of(numbers.len() - i);
-        scale(&numbers[i..i + m], r, e, xs);
-        progress = put_block(&xs[..m], marks, i, bits, held, progress, out);
-        i += m;
+    for (b, block) in numbers.chunks(BLOCK).enumerate() {
+        scale(block, r, e, xs);
+        progress = put_block(
+            &xs[..block.len()],
+            marks,
+            b * BLOCK,
+            bits,
+            held,
+            progress,
+            out,
+        );
     }
     put_last(held, progress, bits, out);
 }
 
 // X of every number, each block made where it is held.
-fn put_every(numbers: &[i32], r: i32, e: u8, bits: u8, held: &mut [u32], out: &mut [u8])
+fn put_every(numbers: &[i32], r: i32, e: u8, bits: u8, held: &mut [u32; ROOM], out: &mut [u8])
     requires bits_le_bits_most { bits ≤ the_bits_most }
     requires by_index { (k : ℕ) → get_or (tab (step_of numbers.now r e) (length numbers.now)) k 0 < 2 ^ bits }
-    requires held_len { length held.old ≡ held_room }
     requires bits_in_bounds { length numbers.now * bits / 8 + 4 ≤ length out.old }
     ensures { out.new ≡
         packed_into bits (tab (step_of numbers.now r e) (length numbers.now)) out.old }
 {
     let mut place: usize = 0;
-    let mut i: usize = 0;
-    while numbers.len() - i >= BLOCK {
-        scale(&numbers[i..i + BLOCK], r, e, held);
+    for b in 0..numbers.len() / BLOCK {
+        scale(&numbers[b * BLOCK..b * BLOCK + BLOCK], r, e, held);
         put_last(
             held,
             Progress {
@@ -68,14 +69,14 @@ fn put_every(numbers: &[i32], r: i32, e: u8, bits: u8, held: &mut [u32], out: &m
             out,
         );
         place += bits as usize * 32;
-        i += BLOCK;
     }
-    scale(&numbers[i..], r, e, held);
+    let rest = &numbers[numbers.len() / BLOCK * BLOCK..];
+    scale(rest, r, e, held);
     put_last(
         held,
         Progress {
             place: place,
-            held: numbers.len() - i,
+            held: rest.len(),
         },
         bits,
         out,

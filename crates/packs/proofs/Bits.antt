@@ -28,10 +28,6 @@ module _ (out : List ℕ) (at n v : ℕ) (b : Bool) (s : b ≡ ltb v (2 ^ n)) wh
         ltb-true v (2 ^ n)
         (sym s ∙ and_right (leb n 32) b (and_left (leb n 32 && b) (leb (octets_for (at + n)) (length out)) h))
 
-    pub bits-room : octets_for (at + n) ≤ length out
-    bits-room =
-        leb-true (octets_for (at + n)) (length out) (and_right (leb n 32 && b) (leb (octets_for (at + n)) (length out)) h)
-
     pub bits-answer : true ≡ bits_fit (length out) at n v
     bits-answer = sym h ∙ judged
 

@@ -1,6 +1,5 @@
 pub mod Over
 pub mod Small
-pub mod Fits
 pub mod Numbers
 pub mod Bits
 pub mod Lists

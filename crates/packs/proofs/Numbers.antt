@@ -2,13 +2,10 @@
 use mathlib.Core.Path.{◌≡◌, sym, ap, ap₂, ◌∙◌}
 use mathlib.Core.Bool.{Bool, true, false, cond, ◌&&◌}
 use mathlib.Core.List.{List}
-use Prim.Native.Nat.{ℕ, ◌+◌, ◌-◌, ◌*◌, ◌^◌, ◌≤◌, ◌<◌}
-use native.Mathlib.Omega.{arith}
-use borrow.Author.Tests.{leb-true, ltb-true}
+use Prim.Native.Nat.{ℕ, ◌+◌, ◌-◌, ◌*◌, ◌^◌}
 use lib.Dec.{leb, ltb}
 use lib.ListN.{length}
 use Rattle.bits.specs.Bits.{number_at}
-use Rattle.bits.proofs.Tests.{and_left, and_right}
 use Rattle.packs.specs.Place.{number_fits, number_put}
 
 module _ (out : List ℕ) (p k c x j : ℕ) (a b : Bool) (o : j ≡ k - 1) (r : a ≡ leb (p + (j + c)) (length out))
@@ -18,15 +15,6 @@ module _ (out : List ℕ) (p k c x j : ℕ) (a b : Bool) (o : j ≡ k - 1) (r : 
   judged = ap₂ (λ (y z : Bool). leb c 4 && y && z) (r ∙ ap (λ (y : ℕ). leb (p + (y + c)) (length out)) o) s
 
   module _ (h : leb c 4 && a && b ≡ true) where
-    pub fit-few : c ≤ 4
-    fit-few = leb-true c 4 (and_left (leb c 4) a (and_left (leb c 4 && a) b h))
-
-    pub fit-room : p + j + c ≤ length out
-    fit-room = let l : p + (j + c) ≤ length out = leb-true (p + (j + c)) (length out) (sym r ∙ and_right (leb c 4) a (and_left (leb c 4 && a) b h)) in omega arith
-
-    pub fit_small : x < 2 ^ (c * 8)
-    fit_small = ltb-true x (2 ^ (c * 8)) (sym s ∙ and_right (leb c 4 && a) b h)
-
     pub fit-answer : true ≡ number_fits out p k c x
     fit-answer = sym h ∙ judged
 

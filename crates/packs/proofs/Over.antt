@@ -11,7 +11,7 @@ use lib.Arith.{digits_lt}
 use lib.Pow.{pow_pos, pow-add, high, low, shl-shr, mod-pow-add, mod-mod-pow}
 use Rattle.bits.specs.Bits.{bits_in, run, runs, octets_for, packed_into, number_at, Wide}
 use Rattle.bits.specs.Tables.{tab}
-use Rattle.bits.proofs.Runs.{Bits, bits_in-bits, run-split, run-lt, run_ext, run-unit, next, next_le}
+use Rattle.bits.proofs.Runs.{Bits, bits_in-bits, run-split, run-lt, run_ext, run-unit, next}
 use Rattle.bits.proofs.Trip.{length_runs, runs_ext, bits-past, runs_own}
 use Rattle.bits.proofs.Next.{bits_left}
 use Rattle.bits.proofs.Placed.{run-zero, runs-split, runs_number, wide-take}
@@ -154,10 +154,6 @@ pub over_none : (vs : List ℕ) (n : ℕ) (d : List ℕ) → d ≡ over n vs 0 d
 unfolding over cover runs tab
 over_none vs n d = refl
 
-pub over-all : (vs : List ℕ) (n : ℕ) (d out : List ℕ) (i : ℕ) → i ≡ length vs → out ≡ over n vs i d
-    → out ≡ over n vs (length vs) d
-over-all vs n d out i e h = h ∙ ap (λ (x : ℕ). over n vs x d) e
-
 module _ (n : ℕ) (vs : List ℕ) (w : Wide n vs) (l : n ≤ 24) (out₀ : List ℕ) (i₀ : ℕ) (out : List ℕ) (k p all i : ℕ)
     (s : State vs n out₀ i₀ out k p all i) (h : i < length vs) where
   held : all * 2 ^ n % 2 ^ 64 + get_or vs i 0 ≡ run (bits_in n vs) (k * 8) (p + n) % 2 ^ 64
@@ -182,9 +178,6 @@ module _ (n : ℕ) (vs : List ℕ) (w : Wide n vs) (l : n ≤ 24) (out₀ : List
             ∙ ap (λ (x : List ℕ). number_at x (i * n / 8) 4 (run (bits_in n (take (i + 1) vs)) (i * n / 8 * 8) 32))
             (s.3 d z) ∙ over_turn n vs w l d i h,
       )
-
-  pub room-four : (b : ℕ) → length vs * n / 8 + 4 ≤ b → k + p / 8 + 4 ≤ b
-  room-four b g = omega (arith, s.2, next_le i (length vs) n h)
 
 -- the octets after the data put back
 pub restored : (n : ℕ) (vs d : List ℕ) → n ≤ 24 → Wide 8 d → octets_for (length vs * n) + 4 ≤ length d

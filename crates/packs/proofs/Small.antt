@@ -3,12 +3,12 @@ use mathlib.Core.Path.{◌≡◌, refl, sym, ap, ap₂, ◌∙◌, subst}
 use mathlib.Core.List.{List, ◌++◌}
 use mathlib.Core.Logic.{⊎_elim}
 use Prim.Native.Nat.{ℕ, zero, suc, ◌+◌, ◌-◌, ◌*◌, ◌/◌, ◌%◌, ◌^◌, ◌≤◌, ◌<◌}
-use native.Mathlib.Nat.{zero-add, add-zero, zero-mul, mul-zero, add-mul, div-le_self, mul-le-mul, mul-le-mul_right}
+use native.Mathlib.Nat.{zero-add, add-zero, zero-mul, mul-zero, add-mul, mul-le-mul, mul-le-mul_right}
 use native.Mathlib.Nat.{not-suc-le-zero, le_of_suc-le-suc}
 use native.Mathlib.Omega.{arith}
-use lib.ListN.{length, get_or, take, drop, length-append, take-append-drop}
+use lib.ListN.{length, get_or, take, drop, length-append, length-drop, take-append-drop}
 use lib.Pow.{shl_exact}
-use lib.Seq.{take_at, take-append-le, drop-append-add, drop-drop, length-take-le}
+use lib.Seq.{take_at, take-append-le, drop-append-add, drop-drop, length-take-le, get_or-take, get_or-drop}
 use Rattle.bits.specs.Bits.{bit_of, bits_in, run, runs, octets_for, packed_into, number_at, Wide}
 use Rattle.bits.proofs.Runs.{bits_in-bits, run-split, run_ext, run-unit, run-lt, run-below, next, lt_or_ge}
 use Rattle.bits.proofs.Trip.{length_runs, runs_ext}
@@ -33,9 +33,6 @@ power-is (suc (suc (suc (suc (suc (suc (suc (suc (suc n))))))))) h =
     (le_of_suc-le-suc
     (le_of_suc-le-suc (le_of_suc-le-suc (le_of_suc-le-suc (le_of_suc-le-suc (le_of_suc-le-suc h)))))))))
 
-pub power-fits : (n : ℕ) → 255 / 2 ^ (8 - n) + 1 < 2 ^ 64
-power-fits n = let h = div-le_self 255 (2 ^ (8 - n)) in omega (arith, h)
-
 -- the numbers held: none, one more
 pub held_none : (n : ℕ) (vs : List ℕ) (i : ℕ) → 0 ≡ run (bits_in n vs) (i * n) (0 * n)
 unfolding run
@@ -50,6 +47,14 @@ held_more n vs w i j all power p e =
     ∙ sym (ap (run f (i * n)) (next j n) ∙ run-split f (i * n) (j * n) n
     ∙ ap (λ (x : ℕ). run f (i * n) (j * n) * 2 ^ n + x)
     (ap (λ (a : ℕ). run f a n) (sym (add-mul i j n)) ∙ run-unit n vs (i + j) (w (i + j))))
+
+-- the eight numbers from number i on
+module _ (vs : List ℕ) (i : ℕ) where
+  pub eight-long : i + 8 ≤ length vs → length (take (i + 8 - i) (drop i vs)) ≡ 8
+  eight-long h = let l = length-drop i vs in length-take-le (i + 8 - i) (drop i vs) (omega arith) ∙ omega arith
+
+  pub eight-at : (j : ℕ) → j < 8 → get_or (take (i + 8 - i) (drop i vs)) j 0 ≡ get_or vs (i + j) 0
+  eight-at j h = get_or-take (i + 8 - i) (drop i vs) j 0 (omega arith) ∙ get_or-drop i vs j 0
 
 pub held_fits : (n : ℕ) (vs : List ℕ) → n ≤ 8 → (i j all power v : ℕ) → j < 8
     → all * power + v ≡ run (bits_in n vs) (i * n) ((j + 1) * n)

@@ -1,7 +1,7 @@
 // Numbers of up to 24 bits each packed one after another into octets from their start on. Up to eight bits wide, eight
 // numbers are stored at once. Wider, four octets are stored at each one's place, and the four after the data, which the
 // last stores may touch, are read first and put back.
-ghost use Rattle.std.specs.Prelude.{◌≡◌, ◌+◌, ◌*◌, ◌/◌, ◌^◌, ◌<◌, ◌≤◌, length};
+ghost use Rattle.std.specs.Prelude.{ℕ, ◌≡◌, ◌+◌, ◌*◌, ◌/◌, ◌^◌, ◌<◌, ◌≤◌, length};
 ghost use Rattle.bits.specs.Bits.{bits_in, run, octets_for, packed_into, Wide};
 ghost use Rattle.packs.specs.Cover.{over, Put};
 ghost use Rattle.packs.specs.Pack.{pack_fits, packed, PacksOn};
@@ -20,13 +20,11 @@ fn pack_some(vs: &[u32], n: usize, out: &mut [u8], k: usize, i: usize, c: usize)
     ensures { Put vs.now n out.old i out.new (i + c) }
 {
     let mut all: u64 = 0;
-    let mut j: usize = 0;
     let mut p: usize = 0;
-    while j < c {
+    for j in 0..c {
         all = (all << n) + vs[i + j] as u64;
         store(out, k + p / 8, 4, (all << (32 - p % 8 - n)) % 4294967296);
         p += n;
-        j += 1;
     }
 }
 
@@ -37,14 +35,11 @@ fn pack_over(vs: &[u32], n: usize, out: &mut [u8])
     requires n_in_bounds { length vs.now * n / 8 + 4 ≤ length out.old }
     ensures { out.new ≡ over n vs.now (length vs.now) out.old }
 {
-    let mut k: usize = 0;
-    let mut i: usize = 0;
-    while vs.len() - i >= 8 {
-        pack_some(vs, n, out, k, i, 8);
-        k += n;
-        i += 8;
+    let eights = vs.len() / 8;
+    for g in 0..eights {
+        pack_some(vs, n, out, g * n, g * 8, 8);
     }
-    pack_some(vs, n, out, k, i, vs.len() - i);
+    pack_some(vs, n, out, eights * n, eights * 8, vs.len() % 8);
 }
 
 // One by one, from number `from` on, the ones before it being packed.
@@ -56,12 +51,8 @@ fn pack_rest(vs: &[u32], n: usize, out: &mut [u8], from: usize)
     requires from_in_bounds { from ≤ length vs.now }
     ensures { PacksOn n from vs.now out.old out.new }
 {
-    let mut i = from;
-    let mut place = from * n;
-    while i < vs.len() {
-        placed(out, place, n, vs[i]);
-        place += n;
-        i += 1;
+    for i in from..vs.len() {
+        placed(out, i * n, n, vs[i]);
     }
 }
 
@@ -75,12 +66,18 @@ fn eight(vs: &[u32], i: usize, n: usize) -> u64
 {
     let power: u64 = (255 >> (8 - n)) + 1;
     let mut all: u64 = 0;
-    let mut j: usize = 0;
-    while j < 8 {
-        all = all * power + vs[i + j] as u64;
-        j += 1;
+    for v in &vs[i..i + 8] {
+        all = all * power + *v as u64;
     }
     all
+}
+
+// How many eights, of n octets each, start with eight octets or more left of the data that ends at octet `end`.
+fn eights_ahead(end: usize, n: usize) -> usize
+    requires { 8 ≤ end → 0 < n }
+    ensures { (g : ℕ) → g < result → g * n + 8 ≤ end }
+{
+    if end < 8 { 0 } else { (end - 8) / n + 1 }
 }
 
 // Numbers of up to eight bits: eight of them are n octets. While eight octets more lie in the data, so many are stored,
@@ -92,20 +89,15 @@ fn pack_small(vs: &[u32], n: usize, out: &mut [u8])
     requires n_in_bounds { octets_for (length vs.now * n) ≤ length out.old }
     ensures { out.new ≡ packed_into n vs.now out.old }
 {
-    let end = (vs.len() * n + 7) / 8;
-    let mut k: usize = 0;
-    let mut i: usize = 0;
-    while end - k >= 8 {
-        store(out, k, 8, eight(vs, i, n) << (64 - 8 * n));
-        k += n;
-        i += 8;
+    let eights = vs.len() / 8;
+    let ahead = eights_ahead((vs.len() * n + 7) / 8, n);
+    for g in 0..ahead {
+        store(out, g * n, 8, eight(vs, g * 8, n) << (64 - 8 * n));
     }
-    while vs.len() - i >= 8 {
-        store(out, k, n, eight(vs, i, n));
-        k += n;
-        i += 8;
+    for g in ahead..eights {
+        store(out, g * n, n, eight(vs, g * 8, n));
     }
-    pack_rest(vs, n, out, i);
+    pack_rest(vs, n, out, eights * 8);
 }
 
 // Over what follows the data where that is four octets or more, which are then put back.

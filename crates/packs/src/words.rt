@@ -19,9 +19,7 @@ pub(crate) fn store(out: &mut [u8], k: usize, c: usize, x: u64)
     requires c_in_bounds { k + c ≤ length out.old }
     ensures { out.new ≡ number_at out.old k c x }
 {
-    let mut j: usize = 0;
-    while j < c {
+    for j in 0..c {
         out[k + j] = ((x >> ((c - 1 - j) * 8)) % 256) as u8;
-        j += 1;
     }
 }

@@ -2,7 +2,7 @@
 // written is left out, so that a program says all that it still can.
 #![tactic(auto)]
 
-ghost use Rattle.std.specs.Prelude.{◌≤◌, length, take};
+ghost use Rattle.std.specs.Prelude.{◌≡◌, ◌≤◌, length, take, drop};
 ghost use Rattle.std.specs.Io.KnownBytes.{Consumes};
 
 use std::fs::File;
@@ -26,12 +26,13 @@ pub fn read_full<R: Read>(from: &mut R, room: &mut [u8]) -> usize
     done
 }
 
-// Reads on into the places of the room from one up to another, where the room has them.
-pub fn load(from: &mut impl Read, room: &mut [u8], start: usize, end: usize) {
-    if start <= end {
-        if end <= room.len() {
-            read_full(from, &mut room[start..end]);
-        }
+// Reads on into the places of the room from one up to another, where the room has them. The other places stay.
+pub fn load(from: &mut impl Read, room: &mut [u8], start: usize, end: usize)
+    ensures before { take start room.new ≡ take start room.old }
+    ensures after { drop end room.new ≡ drop end room.old }
+{
+    if start <= end && end <= room.len() {
+        read_full(from, &mut room[start..end]);
     }
 }
 

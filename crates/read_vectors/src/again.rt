@@ -2,122 +2,70 @@
 ghost use Rattle.std.specs.Prelude.{◌≤◌, length};
 
 use crate::MESSAGE;
-use crate::line::{number, whole, word};
-use rules::{Form, Found, Header, Written};
+use rules::{Form, Header, Refusal};
+use vector_io::{Message, first, say};
 
 // How many octets from the first on are the same in both.
 fn alike(a: &[u8], b: &[u8]) -> usize
     ensures { result ≤ length a.now }
 {
-    let mut i: usize = 0;
-    while i < a.len() {
-        if i >= b.len() {
-            return i;
-        }
-        if a[i] != b[i] {
-            return i;
-        }
-        i += 1;
-    }
-    i
+    a.iter().zip(b).take_while(|(x, y)| x == y).count()
 }
 
 // `same`, or the first octet that is another one, counted from 1.
 fn compare(rt: &impl Print, s: &[u8], again: &[u8]) {
-    let n = alike(s, again);
-    if (n == s.len()) & (n == again.len()) {
-        word(rt, b"same");
+    if s == again {
+        say(rt, "same");
     } else {
-        word(rt, b"differs at");
-        number(rt, n as u64 + 1);
+        say(rt, "differs at");
+        say(rt, alike(s, again) as u64 + 1);
     }
 }
 
-// The first octets of the room that the message was written in; all of them where it has fewer.
-fn octets_part<'a>(s: &'a [u8], from: usize, to: usize) -> &'a [u8] {
-    if from <= to {
-        if to <= s.len() {
-            return &s[from..to];
-        }
-    }
-    s
-}
-
-// The values and marks of the message's points; all of them where they are fewer.
-fn values_part<'a>(s: &'a [u32], from: usize, to: usize) -> &'a [u32] {
-    if from <= to {
-        if to <= s.len() {
-            return &s[from..to];
-        }
-    }
-    s
-}
-
-// The grid to be written: the message's own, where it has a grid section.
-fn own_grid(h: Header) -> Found {
-    let gds = h.places.gds;
-    let grid = h.grid;
-    if gds.len == 0 {
-        return Found::Nothing;
-    }
-    Found::Given(grid)
-}
-
-// What was chosen of the message: its grid, bitmap and packing.
+// What was chosen of the message: its own grid, where it has a grid section, its bitmap and packing.
 fn own_form(h: Header) -> Form {
-    let bitmap = h.bitmap;
-    let packing = h.packing;
     Form {
-        grid: own_grid(h),
-        bitmap,
-        packing,
+        grid: (h.places.gds.len != 0).then_some(h.grid),
+        bitmap: h.bitmap,
+        packing: h.packing,
     }
 }
 
-// Whether what was written is the message, or the number that refused it.
-fn tell(rt: &impl Print, w: Written, s: &[u8], out: &[u8]) {
-    if w.refusal.number == 0 {
-        compare(rt, s, octets_part(out, 0, w.len as usize));
-    } else {
-        word(rt, b"refused");
-        whole(rt, w.refusal.number);
-    }
-}
-
-// Writes what was read of s with the same bitmap lent.
+// Writes what was read of a message with the same bitmap lent.
 fn written(
-    s: &[u8],
-    lent: u16,
-    store: &[u8],
+    message: Message<'_>,
     h: Header,
     values: &[u32],
     marks: &[u8],
     out: &mut [u8],
-) -> Written {
+) -> Result<u32, Refusal> {
     let n = h.points as usize;
     writer::write(
-        handed_back::section(s, lent, store, 1),
+        handed_back::section(message.octets, message.number, message.store, 1),
         own_form(h),
         h.scale,
-        lent,
-        store,
-        values_part(values, 0, n),
-        octets_part(marks, 0, n),
+        message.number,
+        message.store,
+        first(values, n),
+        first(marks, n),
         out,
     )
 }
 
-// The same, and compares.
+// Writes what was read of a message: whether it is the message, or the number that refused it.
 pub(crate) fn write_again(
     rt: &impl Print,
-    s: &[u8],
-    lent: u16,
-    store: &[u8],
+    message: Message<'_>,
     h: Header,
     values: &[u32],
     marks: &[u8],
 ) {
     let mut out = [0u8; MESSAGE];
-    let w = written(s, lent, store, h, values, marks, &mut out);
-    tell(rt, w, s, &out);
+    match written(message, h, values, marks, &mut out) {
+        Ok(len) => compare(rt, message.octets, first(&out, len as usize)),
+        Err(r) => {
+            say(rt, "refused");
+            say(rt, r.number);
+        }
+    }
 }

@@ -1,24 +1,21 @@
 // The reader on each vector file that an argument names, and a line for each: the name, the reply, what the message
 // says, what became of the lent lists, and whether writing what was read gives the message back.
 //
-// A vector file has octets 1-2 the lent bitmap's number, 3-5 how many octets it has, 6-8 how many octets the message
-// has, 9-11 how many of them stand first in the file, 12-14 the place from which on the others stand there, 15-17 the
-// room for values, 18-20 the room for marks; then the lent bitmap, the message's first octets and its last ones. Those
-// in between are zero, so a long message can be a small file.
+// A vector file has the head of a message and its lent bitmap (`load_message` of vector_io), octets 1-14; octets 15-17
+// the room for values, 18-20 the room for marks; then the lent bitmap, the message's first octets and its last ones.
+// Those in between are zero, so a long message can be a small file.
 #![tactic(auto)]
 
 mod again; // again.rt: what was read, written again
 mod line; // line.rt: what is printed
-mod lists; // lists.rt: what the lent lists hold before and after
 
 use crate::again::write_again;
 use crate::line::answer;
-use crate::lists::{fill_marks, fill_values};
 use program_io::{load, open_read, write_all};
-use rules::Header;
 use std::io::Read;
 use std::rt::Files;
 use std::{env, io};
+use vector_io::{Message, fill, load_message, size};
 
 const HEAD: usize = 20;
 
@@ -30,120 +27,55 @@ const STORE: usize = 8193;
 
 const POINTS: usize = 65537;
 
-// What the reader answered; of an accepted message what was read is written again.
-fn tell(
-    rt: &impl Print,
-    s: &[u8],
-    number: u16,
-    store: &[u8],
-    h: Header,
-    values: &[u32],
-    marks: &[u8],
-) {
-    answer(rt, h, values, marks);
-    if h.refusal.number == 0 {
-        write_again(rt, s, number, store, h, values, marks);
+// Lists filled, the message read into them, and the line: what the reader answered, and of an accepted message whether
+// writing what was read gives it back.
+fn judge(rt: &impl Print, message: Message<'_>, values: &mut [u32], marks: &mut [u8]) {
+    fill(values);
+    fill(marks);
+    let read = field::read(message.octets, message.number, message.store, values, marks);
+    answer(rt, read, values, marks);
+    if let Ok(h) = read {
+        write_again(rt, message, h, values, marks);
     }
 }
 
-// Lists filled, the message read into them, and the line.
-fn judge(
-    rt: &impl Print,
-    s: &[u8],
-    number: u16,
-    store: &[u8],
-    values: &mut [u32],
-    marks: &mut [u8],
-) {
-    fill_values(values);
-    fill_marks(marks);
-    let h = field::read(s, number, store, values, marks);
-    tell(rt, s, number, store, h, values, marks);
-}
-
-// The same on so many octets and elements of each as the vector says.
-fn judge_lists(
-    rt: &impl Print,
-    s: &[u8],
-    number: u16,
-    store: &[u8],
-    values: &mut [u32],
-    v: usize,
-    marks: &mut [u8],
-    m: usize,
-) {
-    if v <= values.len() {
-        if m <= marks.len() {
-            judge(rt, s, number, store, &mut values[..v], &mut marks[..m]);
-        }
-    }
-}
-
-// The same, the message and the lent bitmap cut to their lengths.
-fn judge_octets(
-    rt: &impl Print,
-    s: &[u8],
-    len: usize,
-    number: u16,
-    store: &[u8],
-    held: usize,
-    v: usize,
-    m: usize,
-) {
+// The same on so many octets and elements of each list as a head says, where the rooms have them.
+fn judge_parts(rt: &impl Print, head: &[u8], octets: &[u8], store: &[u8]) {
     let mut values = [0u32; POINTS];
     let mut marks = [0u8; POINTS];
-    if len <= s.len() {
-        if held <= store.len() {
-            judge_lists(
-                rt,
-                &s[..len],
-                number,
-                &store[..held],
-                &mut values,
-                v,
-                &mut marks,
-                m,
-            );
-        }
-    }
-}
-
-// A length of three octets, from octet k of the head on.
-fn size(head: &[u8], k: u8) -> usize {
-    octets::three(head, 0, k) as usize
-}
-
-// The message read from the file, and judged.
-fn run_message(rt: &impl Print, file: &mut impl Read, head: &[u8], store: &[u8], held: usize) {
-    let mut message = [0u8; MESSAGE];
-    let len = size(head, 6);
-    load(file, &mut message, 0, size(head, 9));
-    load(file, &mut message, size(head, 12), len);
-    judge_octets(
+    let number = octets::two(head, 0, 1);
+    let Some(store) = store.get(..size(head, 3)) else {
+        return;
+    };
+    let Some(octets) = octets.get(..size(head, 6)) else {
+        return;
+    };
+    let Some(values) = values.get_mut(..size(head, 15)) else {
+        return;
+    };
+    let Some(marks) = marks.get_mut(..size(head, 18)) else {
+        return;
+    };
+    judge(
         rt,
-        &message,
-        len,
-        octets::two(head, 0, 1),
-        store,
-        held,
-        size(head, 15),
-        size(head, 18),
+        Message {
+            octets,
+            number,
+            store,
+        },
+        values,
+        marks,
     );
-}
-
-// The lent bitmap read from the file, and then the message.
-fn run_store(rt: &impl Print, file: &mut impl Read, head: &[u8]) {
-    let mut store = [0u8; STORE];
-    let held = size(head, 3);
-    load(file, &mut store, 0, held);
-    run_message(rt, file, head, &store, held);
 }
 
 // One vector: its head, and then what it announces.
 fn run_vector(rt: &impl Print, file: &mut impl Read) {
     let mut head = [0u8; HEAD];
+    let mut store = [0u8; STORE];
+    let mut message = [0u8; MESSAGE];
     load(file, &mut head, 0, HEAD);
-    run_store(rt, file, &head);
+    load_message(file, &head, &mut store, &mut message);
+    judge_parts(rt, &head, &message, &store);
 }
 
 // The vector file of that name, a line.

@@ -2,7 +2,8 @@
 use mathlib.Core.Path.{◌≡◌}
 use Prim.Native.Nat.{ℕ}
 use lib.IntN.{ℤ}
-use Rattle.rules.specs.declared.{Figures.Figures, Grid.Grid, Header.Header}
+use Rattle.rules.specs.declared.{Figures.Figures, Grid.Grid}
+use Rattle.rules.specs.Answers.{Header}
 use Rattle.rules.specs.Figures.{the_figures_of}
 use Rattle.records.specs.declared.{PartRecord.PartRecord, GridRecord.GridRecord, HeaderRecord.HeaderRecord}
 use Rattle.records.specs.Records.{the_bitmap_kind, the_bitmap_number, the_part_record, the_grid_record, the_header_record}

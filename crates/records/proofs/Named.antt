@@ -1,10 +1,11 @@
 -- The records that come in: each kind by its number. Kinds that have no name are refused, and what goes out comes back.
+use Rattle.std.specs.Prelude.{None, Option, Some}
 use Prim.Native.Nat.{ℕ}
 use mathlib.Core.Path.{◌≡◌, refl, sym, ap, ◌∙◌}
 use mathlib.Core.Bool.{Bool, true, false, ◌||◌}
 use native.Mathlib.Omega.{arith}
 use borrow.Author.Tests.{ne_eqb}
-use Rattle.rules.specs.declared.{Grid.Grid, Found.Found, Found.TheVariants.Nothing, Found.TheVariants.Given}
+use Rattle.rules.specs.declared.{Grid.Grid}
 use Rattle.rules.specs.declared.{Bitmap.TheVariants.Without, Bitmap.TheVariants.Carried, Bitmap.TheVariants.Stored}
 use Rattle.rules.specs.Table.{any_of, or_all}
 use Rattle.rules.specs.declared.{Start.Start, Start.TheVariants.Equator, Start.TheVariants.Pole}
@@ -23,15 +24,15 @@ use Rattle.records.specs.Forms.{the_grid_back, the_grid_by, the_bitmap_by, Unkno
 use Rattle.records.specs.Forms.{BitmapReturns}
 
 module _ (kind : ℕ) (g : GridRecord) where
-  pub grid-none : kind ≡ 0 → Nothing ≡ the_grid_by kind g
+  pub grid-none : kind ≡ 0 → None ≡ the_grid_by kind g
   unfolding the_grid_by
   grid-none e = rw e
 
-  pub grid-given : kind ≡ 1 → (x : Grid) → x ≡ the_grid_back g → Given x ≡ the_grid_by kind g
+  pub grid-given : kind ≡ 1 → (x : Grid) → x ≡ the_grid_back g → Some x ≡ the_grid_by kind g
   unfolding the_grid_by
   grid-given e x q = rw (e, q)
 
-  pub grid-other : (kind ≡ 0 → ⊥) → (kind ≡ 1 → ⊥) → (x : Grid) → x ≡ the_no_grid → Given x ≡ the_grid_by kind g
+  pub grid-other : (kind ≡ 0 → ⊥) → (kind ≡ 1 → ⊥) → (x : Grid) → x ≡ the_no_grid → Some x ≡ the_grid_by kind g
   unfolding the_grid_by
   grid-other a b x q = rw (ne_eqb kind 0 a, ne_eqb kind 1 b, q)
 
@@ -58,8 +59,8 @@ zeros-refused = refl
 
 pub unknown_grid : UnknownGrid
 unknown_grid kind g l =
-    let e : Given the_no_grid ≡ the_grid_by kind g = grid-other kind g (λ q. omega (arith, l, q)) (λ q. omega (arith, l, q)) the_no_grid refl in
-    ap (λ (x : Found). any_of (grid_faults (grid_or_zeros x))) (sym e) ∙ zeros-refused
+    let e : Some the_no_grid ≡ the_grid_by kind g = grid-other kind g (λ q. omega (arith, l, q)) (λ q. omega (arith, l, q)) the_no_grid refl in
+    ap (λ (x : Option Grid). any_of (grid_faults (grid_or_zeros x))) (sym e) ∙ zeros-refused
 
 -- a test that applies is not undone by a later one
 or-true : (a : Bool) → (a || true) ≡ true
@@ -92,7 +93,7 @@ geometry_back (Polar x) = refl
 pub grid_returns : GridReturns
 unfolding the_grid_by
 grid_returns g =
-    ap (λ (x : Geometry). Given (grid_with g.ni g.nj g.la1 g.lo1 g.flags g.scan x))
+    ap (λ (x : Geometry). Some (grid_with g.ni g.nj g.la1 g.lo1 g.flags g.scan x))
     (geometry_back g.geometry)
 
 pub bitmap_returns : BitmapReturns

@@ -1,7 +1,7 @@
 -- The records that come in from C. Every number in them means something: a kind that has no name stands for a part that
 -- document 01 refuses, in the place of its order where that part is judged.
-use Rattle.std.specs.Prelude.{ℕ, ◌<◌, ◌≡◌, true, cond, List, eqb, ℤ}
-use Rattle.rules.specs.declared.{Figures.Figures, Grid.Grid, Found.Found, Found.TheVariants.Nothing, Found.TheVariants.Given}
+use Rattle.std.specs.Prelude.{ℕ, ◌<◌, ◌≡◌, true, cond, List, eqb, ℤ, None, Option, Some}
+use Rattle.rules.specs.declared.{Figures.Figures, Grid.Grid}
 use Rattle.rules.specs.declared.{Bitmap.Bitmap, Bitmap.TheVariants.Without, Bitmap.TheVariants.Carried}
 use Rattle.rules.specs.declared.{Bitmap.TheVariants.Stored, Form.Form, Scale.Scale}
 use Rattle.rules.specs.Numbers.{plain}
@@ -24,8 +24,8 @@ the_grid_back g =
     grid_with g.ni g.nj (plain g.la1) (plain g.lo1) g.resolution g.scan (the_geometry_of (the_figures_back g))
 
 -- 0 no grid, 1 the one in the record, any other number a grid of zeros, which 9 refuses
-unfoldable pub the_grid_by : ℕ → GridRecord → Found
-the_grid_by kind g = cond (eqb kind 0) Nothing (cond (eqb kind 1) (Given (the_grid_back g)) (Given the_no_grid))
+unfoldable pub the_grid_by : ℕ → GridRecord → Option Grid
+the_grid_by kind g = cond (eqb kind 0) None (cond (eqb kind 1) (Some (the_grid_back g)) (Some the_no_grid))
 
 -- 0 none, 1 carried, 2 the stored one of a number, any other number the stored one of number 0, which 10 refuses
 unfoldable pub the_bitmap_by : ℕ → ℕ → Bitmap
@@ -50,7 +50,7 @@ UnknownBitmap =
 
 -- what goes out comes back: a header's grid and bitmap may be put into a form
 abbrev pub GridReturns : Type 0
-GridReturns = (g : Grid) → the_grid_by 1 (the_grid_record g) ≡ Given g
+GridReturns = (g : Grid) → the_grid_by 1 (the_grid_record g) ≡ Some g
 
 abbrev pub BitmapReturns : Type 0
 BitmapReturns = (b : Bitmap) → the_bitmap_by (the_bitmap_kind b) (the_bitmap_number b) ≡ b

@@ -1,17 +1,54 @@
 -- The records that the C face hands out: each field as a number of the answer in `rules`. The answer to a refusal has
 -- zero in every field but its reply, and of 20 to 23 the section and the place, and so has its record.
-use Rattle.std.specs.Prelude.{ℕ, Bool, false, cond}
-use Rattle.rules.specs.declared.{Refusal.Refusal, Written.Written, Display.Display, Part.Part, Grid.Grid, Bitmap.Bitmap}
+use Rattle.std.specs.Prelude.{ℕ, Bool, false, cond, Err, None, Ok, Option, Result, Some}
+use Rattle.rules.specs.declared.{Refusal.Refusal, Part.Part, Grid.Grid, Bitmap.Bitmap, Spot.Spot, GridPoint.GridPoint}
 use Rattle.rules.specs.declared.{Bitmap.TheVariants.Without, Bitmap.TheVariants.Carried, Bitmap.TheVariants.Stored}
-use Rattle.rules.specs.declared.{Header.Header, Charted.Charted, Charted.TheVariants.On, Charted.TheVariants.Off}
-use Rattle.rules.specs.declared.{Pointed.Pointed, Pointed.TheVariants.At, Pointed.TheVariants.Off as Nowhere}
-use Rattle.rules.specs.declared.{Indexed.Indexed, UnderCursor.UnderCursor, UnderCursor.TheVariants.Refused}
-use Rattle.rules.specs.declared.{UnderCursor.TheVariants.Absent, UnderCursor.TheVariants.Value}
+use Rattle.rules.specs.Answers.{Display, Header, Indexed, Written}
+use Rattle.std.specs.Float.{binary64}
+use Rattle.std.specs.Float.Ieee.{of_bits}
+use Rattle.rules.specs.declared.{Header.Header as Said, Display.Display as Shown}
+use Rattle.rules.specs.Table.{refusal}
+use Rattle.rules.specs.Reading.{refused_by}
 use Rattle.rules.specs.Figures.{the_figures_of}
 use Rattle.records.specs.declared.{PartRecord.PartRecord, GridRecord.GridRecord, HeaderRecord.HeaderRecord}
 use Rattle.records.specs.declared.{PlaceRecord.PlaceRecord, PointRecord.PointRecord, DisplayRecord.DisplayRecord}
 use Rattle.records.specs.declared.{WrittenRecord.WrittenRecord, CheckRecord.CheckRecord}
 use Rattle.records.specs.declared.{IndexedRecord.IndexedRecord, CursorRecord.CursorRecord}
+
+-- an answer of the code, as the rules say it: the reply beside what was found, and zeros beside one that refuses
+abbrev pub with_reply : Refusal → Said → Header
+with_reply r h = record {
+  refusal = r;
+  places = h.places;
+  time = h.time;
+  d = h.d;
+  grid = h.grid;
+  points = h.points;
+  bitmap = h.bitmap;
+  present = h.present;
+  packing = h.packing;
+  scale = h.scale;
+}
+
+abbrev pub header_answer : Result Said Refusal → Header
+header_answer (Ok h) = with_reply (refusal 0) h
+header_answer (Err r) = refused_by r
+
+abbrev pub display_answer : Result Shown Refusal → Display
+display_answer (Ok d) = record { refusal = refusal 0; reference = d.reference; step = d.step }
+display_answer (Err r) = record { refusal = r; reference = of_bits binary64 0; step = of_bits binary64 0 }
+
+abbrev pub length_answer : Result ℕ Refusal → Written
+length_answer (Ok n) = record { refusal = refusal 0; len = n }
+length_answer (Err r) = record { refusal = r; len = 0 }
+
+abbrev pub entries_answer : Result ℕ Refusal → Indexed
+entries_answer (Ok n) = record { refusal = refusal 0; entries = n }
+entries_answer (Err r) = record { refusal = r; entries = 0 }
+
+abbrev pub check_answer : Result (Unit {0}) Refusal → Refusal
+check_answer (Ok u) = refusal 0
+check_answer (Err r) = r
 
 -- a bitmap's kind and, where it is a stored one, its number
 abbrev pub the_bitmap_kind : Bitmap → ℕ
@@ -86,14 +123,14 @@ the_header_record h = record {
 }
 
 -- a place of the chart, or 0 and zeros where the grid has no such point
-abbrev pub the_place_record : Charted → PlaceRecord
-the_place_record (On c) = record { on = 1; row = c.row; column = c.column }
-the_place_record Off = record { on = 0; row = 0; column = 0 }
+abbrev pub the_place_record : Option Spot → PlaceRecord
+the_place_record (Some c) = record { on = 1; row = c.row; column = c.column }
+the_place_record None = record { on = 0; row = 0; column = 0 }
 
 -- a grid point, or 0 and zero where the chart has no such place
-abbrev pub the_point_record : Pointed → PointRecord
-the_point_record (At k) = record { on = 1; point = k.0 }
-the_point_record Nowhere = record { on = 0; point = 0 }
+abbrev pub the_point_record : Option GridPoint → PointRecord
+the_point_record (Some k) = record { on = 1; point = k.0 }
+the_point_record None = record { on = 0; point = 0 }
 
 abbrev pub the_display_record : Display → DisplayRecord
 the_display_record d = record {
@@ -120,7 +157,7 @@ the_indexed_record i = record {
 }
 
 -- what a place has under the cursor: 1 and its value, 2 where it is absent, 0 where it is refused
-abbrev pub the_cursor_record : UnderCursor → CursorRecord
-the_cursor_record (Refused r) = record { reply = r.number; section = r.section; place = r.place; kind = 0; value = 0 }
-the_cursor_record Absent = record { reply = 0; section = 0; place = 0; kind = 2; value = 0 }
-the_cursor_record (Value x) = record { reply = 0; section = 0; place = 0; kind = 1; value = x }
+abbrev pub the_cursor_record : Result (Option ℕ) Refusal → CursorRecord
+the_cursor_record (Err r) = record { reply = r.number; section = r.section; place = r.place; kind = 0; value = 0 }
+the_cursor_record (Ok None) = record { reply = 0; section = 0; place = 0; kind = 2; value = 0 }
+the_cursor_record (Ok (Some x)) = record { reply = 0; section = 0; place = 0; kind = 1; value = x }

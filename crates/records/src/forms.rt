@@ -7,7 +7,7 @@ ghost use Rattle.records.specs.Forms.{the_scale_by};
 use crate::GridRecord;
 use kinds::geometry_of;
 use octets::plain;
-use rules::{Bitmap, Figures, Form, Found, Grid, Packing, Scale};
+use rules::{Bitmap, Figures, Form, Grid, Packing, Scale};
 
 #[repr(C)]
 #[derive(Clone, Copy)]
@@ -59,16 +59,16 @@ pub fn grid_back(g: GridRecord) -> Grid
 }
 
 // The grid given, by its kind: 0 none, 1 this one; another number is a grid that 9 refuses.
-fn grid_by(kind: u32, g: GridRecord) -> Found
+fn grid_by(kind: u32, g: GridRecord) -> Option<Grid>
     ensures { result ≡ the_grid_by kind g }
 {
     if kind == 0 {
-        return Found::Nothing;
+        return None;
     }
     if kind == 1 {
-        return Found::Given(grid_back(g));
+        return Some(grid_back(g));
     }
-    Found::Given(grid::the_grid(Found::Nothing))
+    Some(grid::the_grid(None))
 }
 
 // The bitmap by its kind: another number than 0, 1 and 2 is one that 10 refuses.

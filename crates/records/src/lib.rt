@@ -6,16 +6,24 @@ ghost use Rattle.std.specs.Prelude.{◌≡◌};
 ghost use Rattle.records.specs.Records.{the_bitmap_kind, the_bitmap_number, the_part_record, the_grid_record};
 ghost use Rattle.records.specs.Records.{the_header_record};
 ghost use Rattle.records.specs.Records.{the_place_record, the_point_record, the_display_record, the_written_record};
+ghost use Rattle.rules.specs.Answers.{said_by};
+ghost use Rattle.rules.specs.Reading.{refused_by};
+ghost use Rattle.rules.specs.Table.{refusal as the_refusal};
 ghost use Rattle.records.specs.Records.{the_check_record};
+ghost use Rattle.records.specs.Records.{with_reply, header_answer, display_answer, length_answer, check_answer};
+ghost use Rattle.records.specs.Records.{entries_answer};
 ghost use Rattle.records.specs.Records.{the_indexed_record, the_cursor_record};
 
 mod forms; // forms.rt: the record that comes in
 
 pub use forms::{FormRecord, form_by, grid_back, scale_by};
+use grid::the_grid;
 use kinds::figures_of;
+use octets::plain;
+use reply::refusal;
 use rules::{
-    Bitmap, Charted, Display, Grid, Header, Indexed, Part, Pointed, Refusal, Signed, UnderCursor,
-    Written,
+    Bitmap, Display, Grid, GridPoint, Header, Moment, Packing, Part, Places, Refusal, Scale,
+    Signed, Spot,
 };
 
 // A part of the message (stored 0) or of the lent bitmap (stored 1).
@@ -211,17 +219,47 @@ fn grid_record(g: Grid) -> GridRecord
     }
 }
 
-// What a message says, field by field.
-pub fn header_record(h: Header) -> HeaderRecord
-    ensures { result ≡ the_header_record h }
+// What a refused message says: nothing.
+fn nothing() -> Header
+    ensures { result ≡ said_by (refused_by (the_refusal 0)) }
+{
+    let none = Part { start: 0, len: 0 };
+    let zero = plain(0);
+    Header {
+        places: Places {
+            pds: none,
+            gds: none,
+            bms: none,
+            bds: none,
+        },
+        time: Moment {
+            year: 0,
+            month: 0,
+            day: 0,
+            hour: 0,
+            minute: 0,
+        },
+        d: zero,
+        grid: the_grid(None),
+        points: 0,
+        bitmap: Bitmap::Without,
+        present: 0,
+        packing: Packing { flags: 0, bits: 0 },
+        scale: Scale { e: zero, r: 0 },
+    }
+}
+
+// A reply and what is said with it, field by field.
+fn replied_record(refusal: Refusal, h: Header) -> HeaderRecord
+    ensures { result ≡ the_header_record (with_reply refusal h) }
 {
     let bitmap = h.bitmap;
     let grid = h.grid;
     let places = h.places;
     HeaderRecord {
-        reply: h.refusal.number,
-        section: h.refusal.section,
-        place: h.refusal.place,
+        reply: refusal.number,
+        section: refusal.section,
+        place: refusal.place,
         points: h.points,
         present: h.present,
         d: value(h.d),
@@ -244,17 +282,27 @@ pub fn header_record(h: Header) -> HeaderRecord
     }
 }
 
+// What a message says, or zeros beside the reply that refuses it.
+pub fn header_record(answer: Result<Header, Refusal>) -> HeaderRecord
+    ensures { result ≡ the_header_record (header_answer answer) }
+{
+    match answer {
+        Ok(h) => replied_record(refusal(0), h),
+        Err(r) => replied_record(r, nothing()),
+    }
+}
+
 // A place of the chart, or that there is none.
-pub fn place_record(charted: Charted) -> PlaceRecord
+pub fn place_record(charted: Option<Spot>) -> PlaceRecord
     ensures { result ≡ the_place_record charted }
 {
     match charted {
-        Charted::On(c) => PlaceRecord {
+        Some(c) => PlaceRecord {
             on: 1,
             row: c.row,
             column: c.column,
         },
-        Charted::Off => PlaceRecord {
+        None => PlaceRecord {
             on: 0,
             row: 0,
             column: 0,
@@ -263,81 +311,108 @@ pub fn place_record(charted: Charted) -> PlaceRecord
 }
 
 // A grid point, or that there is none.
-pub fn point_record(pointed: Pointed) -> PointRecord
+pub fn point_record(pointed: Option<GridPoint>) -> PointRecord
     ensures { result ≡ the_point_record pointed }
 {
     match pointed {
-        Pointed::At(k) => PointRecord { on: 1, point: k.0 },
-        Pointed::Off => PointRecord { on: 0, point: 0 },
+        Some(k) => PointRecord { on: 1, point: k.0 },
+        None => PointRecord { on: 0, point: 0 },
     }
 }
 
-// R and 2^E with their reply and what it tells.
-pub fn display_record(d: Display) -> DisplayRecord
-    ensures { result ≡ the_display_record d }
+// R and 2^E, or zeros beside the reply that refuses them.
+pub fn display_record(answer: Result<Display, Refusal>) -> DisplayRecord
+    ensures { result ≡ the_display_record (display_answer answer) }
 {
-    DisplayRecord {
-        reply: d.refusal.number,
-        section: d.refusal.section,
-        place: d.refusal.place,
-        reference: d.reference,
-        step: d.step,
+    match answer {
+        Ok(d) => DisplayRecord {
+            reply: 0,
+            section: 0,
+            place: 0,
+            reference: d.reference,
+            step: d.step,
+        },
+        Err(unshown) => DisplayRecord {
+            reply: unshown.number,
+            section: unshown.section,
+            place: unshown.place,
+            reference: 0.0,
+            step: 0.0,
+        },
     }
 }
 
-// The reply and the length of what was written; no reply of the writer or the packer tells a section.
-pub fn written_record(w: Written) -> WrittenRecord
-    ensures { result ≡ the_written_record w }
+// The length of what was written, or the reply that refuses it; no reply of the writer or the packer tells a section.
+pub fn written_record(answer: Result<u32, Refusal>) -> WrittenRecord
+    ensures { result ≡ the_written_record (length_answer answer) }
 {
-    WrittenRecord {
-        reply: w.refusal.number,
-        len: w.len,
+    match answer {
+        Ok(len) => WrittenRecord { reply: 0, len },
+        Err(unwritten) => WrittenRecord {
+            reply: unwritten.number,
+            len: 0,
+        },
     }
 }
 
-// The check's reply and what it tells.
-pub fn check_record(refusal: Refusal) -> CheckRecord
-    ensures { result ≡ the_check_record refusal }
+// The check's yes, or its reply and what it tells.
+pub fn check_record(answer: Result<(), Refusal>) -> CheckRecord
+    ensures { result ≡ the_check_record (check_answer answer) }
 {
-    CheckRecord {
-        reply: refusal.number,
-        section: refusal.section,
-        place: refusal.place,
+    match answer {
+        Ok(_) => CheckRecord {
+            reply: 0,
+            section: 0,
+            place: 0,
+        },
+        Err(fault) => CheckRecord {
+            reply: fault.number,
+            section: fault.section,
+            place: fault.place,
+        },
     }
 }
 
-// The filling's reply and what it tells, and how many entries it took.
-pub fn indexed_record(indexed: Indexed) -> IndexedRecord
-    ensures { result ≡ the_indexed_record indexed }
+// How many entries a filling took, or the reply that refuses it and what it tells.
+pub fn indexed_record(answer: Result<u32, Refusal>) -> IndexedRecord
+    ensures { result ≡ the_indexed_record (entries_answer answer) }
 {
-    IndexedRecord {
-        reply: indexed.refusal.number,
-        section: indexed.refusal.section,
-        place: indexed.refusal.place,
-        entries: indexed.entries,
+    match answer {
+        Ok(entries) => IndexedRecord {
+            reply: 0,
+            section: 0,
+            place: 0,
+            entries,
+        },
+        Err(unfilled) => IndexedRecord {
+            reply: unfilled.number,
+            section: unfilled.section,
+            place: unfilled.place,
+            entries: 0,
+        },
     }
 }
 
 // A value, its absence, or the reply and what it tells.
-pub fn cursor_record(under: UnderCursor) -> CursorRecord
+pub fn cursor_record(under: Result<Option<u32>, Refusal>) -> CursorRecord
     ensures { result ≡ the_cursor_record under }
 {
     match under {
-        UnderCursor::Refused(why) => CursorRecord {
+        Err(why) => CursorRecord {
             reply: why.number,
             section: why.section,
             place: why.place,
             kind: 0,
             value: 0,
         },
-        UnderCursor::Absent => CursorRecord {
+        Ok(None) => CursorRecord {
             reply: 0,
             section: 0,
             place: 0,
             kind: 2,
             value: 0,
         },
-        UnderCursor::Value(x) => CursorRecord {
+        Ok(Some(x)) => CursorRecord {
             reply: 0,
             section: 0,
             place: 0,

@@ -1,14 +1,13 @@
 -- What is answered where there is nothing to answer: no bitmap, a bitmap that is lent, an absent section, a refused
 -- message, a place outside the chart, R of zero.
+use Rattle.std.specs.Prelude.{None, Some}
 use mathlib.Core.Path.{◌≡◌, refl}
 use mathlib.Core.List.{List, [], ◌∷◌, ◌++◌, map}
 use mathlib.Core.Bool.{true, false}
 use Prim.Native.Nat.{ℕ}
 use lib.ListN.{set, take, drop}
 use lib.Ieee.{binary64, of_bits}
-use Rattle.rules.specs.declared.{Shape.Shape, Shape.TheVariants.Even, Charted.TheVariants.On}
-use Rattle.rules.specs.declared.{Charted.TheVariants.Off}
-use Rattle.rules.specs.declared.{Pointed.TheVariants.At, Pointed.TheVariants.Off as Nowhere}
+use Rattle.rules.specs.declared.{Shape.Shape, Shape.TheVariants.Even}
 use Rattle.rules.specs.Chart.{charted, pointed}
 use Rattle.rules.specs.Points.{numbered, outside}
 use Rattle.rules.specs.Reading.{bitmap_of, section_of, numbering_of}
@@ -48,11 +47,11 @@ abbrev chart : Shape
 chart = Even (record { ni = 3; nj = 2; scan = 64 })
 
 -- the last point and the one after it; the last place, and one to the right of it and one below
-lost : map (λ k. charted chart (record { 0 = k })) (5 ∷ 6 ∷ []) ≡ On (record { row = 0; column = 2 }) ∷ Off ∷ []
+lost : map (λ k. charted chart (record { 0 = k })) (5 ∷ 6 ∷ []) ≡ Some (record { row = 0; column = 2 }) ∷ None ∷ []
 unfolding computes
 lost = refl
 
-nowhere : map (pointed chart) (record { row = 0; column = 2 } ∷ record { row = 0; column = 3 } ∷ record { row = 2; column = 0 } ∷ []) ≡ At (record { 0 = 5 }) ∷ Nowhere ∷ Nowhere ∷ []
+nowhere : map (pointed chart) (record { row = 0; column = 2 } ∷ record { row = 0; column = 3 } ∷ record { row = 2; column = 0 } ∷ []) ≡ Some (record { 0 = 5 }) ∷ None ∷ None ∷ []
 unfolding computes
 nowhere = refl
 

@@ -1,13 +1,13 @@
 -- Document 02, R-6, computed on the specimen, whose four points are one group, and, where several groups are needed, on
 -- presence given as a function.
+use Rattle.std.specs.Prelude.{Err, None, Ok, Option, Result, Some}
 use mathlib.Core.Path.{◌≡◌, refl}
 use mathlib.Core.Bool.{Bool, true, false, cond}
 use mathlib.Core.List.{List, [], ◌∷◌, ◌++◌, map}
 use Prim.Native.Nat.{ℕ, ◌%◌}
 use lib.Dec.{eqb}
 use lib.ListN.{set}
-use Rattle.rules.specs.declared.{Spot.Spot, UnderCursor.UnderCursor, UnderCursor.TheVariants.Refused}
-use Rattle.rules.specs.declared.{UnderCursor.TheVariants.Absent, UnderCursor.TheVariants.Value}
+use Rattle.rules.specs.declared.{Spot.Spot, Refusal.Refusal}
 use Rattle.rules.specs.Table.{refusal, any_of}
 use Rattle.rules.specs.Cursor.{the_groups_for, the_group_size, ones_in, index_of, the_index_after, index_faults, cursor_number}
 use Rattle.rules.specs.Cursor.{cursor_of}
@@ -44,23 +44,23 @@ own_first = refl
 abbrev place : ℕ → ℕ → Spot
 place row column = record { row = row; column = column }
 
-abbrev at : List ℕ → ℕ → ℕ → UnderCursor
+abbrev at : List ℕ → ℕ → ℕ → Result (Option ℕ) Refusal
 at index row column = cursor_of specimen nothing index (place row column)
 
 chart : at (0 ∷ []) 0 0 ∷ at (0 ∷ []) 0 1 ∷ at (0 ∷ []) 1 0 ∷ at (0 ∷ []) 1 1 ∷ []
-    ≡ Absent ∷ Value 7 ∷ Value 0 ∷ Value 2 ∷ []
+    ≡ (Ok None) ∷ (Ok (Some 7)) ∷ (Ok (Some 0)) ∷ (Ok (Some 2)) ∷ []
 unfolding computes
 chart = refl
 
 -- 24 just outside, before 25; 25 for no entry, for one too high, for the greatest that a list holds, and at an absent
 -- place too; what stands after the last group is not looked at
 outside : at [] 2 0 ∷ at (0 ∷ []) 0 2 ∷ at (0 ∷ []) 4294967295 4294967295 ∷ []
-    ≡ Refused (refusal 24) ∷ Refused (refusal 24) ∷ Refused (refusal 24) ∷ []
+    ≡ Err (refusal 24) ∷ Err (refusal 24) ∷ Err (refusal 24) ∷ []
 unfolding computes
 outside = refl
 
 unfit : at [] 0 1 ∷ at (1 ∷ []) 0 1 ∷ at (4294967295 ∷ []) 0 1 ∷ at (1 ∷ []) 0 0 ∷ at (0 ∷ 77 ∷ []) 0 1 ∷ []
-    ≡ Refused (refusal 25) ∷ Refused (refusal 25) ∷ Refused (refusal 25) ∷ Refused (refusal 25) ∷ Value 7 ∷ []
+    ≡ Err (refusal 25) ∷ Err (refusal 25) ∷ Err (refusal 25) ∷ Err (refusal 25) ∷ (Ok (Some 7)) ∷ []
 unfolding computes
 unfit = refl
 

@@ -1,5 +1,6 @@
 -- The thinned octants of document 02, R-1, computed: their counts, the corners of their charts, and what a section that
 -- is one of the eight, and one that is not, get as a reply.
+use Rattle.std.specs.Prelude.{None, Some}
 use mathlib.Core.Path.{◌≡◌, refl}
 use mathlib.Core.Bool.{Bool, true, false, not}
 use mathlib.Core.List.{List, [], ◌∷◌, map}
@@ -8,8 +9,6 @@ use lib.IntN.{pos}
 use lib.ListN.{length, set}
 use Rattle.rules.specs.declared.{Part.Part, Grid.Grid, Start.TheVariants.Equator}
 use Rattle.rules.specs.declared.{Start.TheVariants.Pole, Start.TheVariants.Neither}
-use Rattle.rules.specs.declared.{Charted.TheVariants.On, Charted.TheVariants.Off}
-use Rattle.rules.specs.declared.{Pointed.TheVariants.At, Pointed.TheVariants.Off as Nowhere}
 use Rattle.rules.specs.Bounds.{thinned_length, octant_rows, octant_points}
 use Rattle.rules.specs.Numbers.{plain}
 use Rattle.rules.specs.Counts.{total, counts_of}
@@ -45,25 +44,25 @@ first = refl
 -- the first point of grid 37 lies in the last row, at the equator, and its last at the pole, in row 0; so does that of
 -- grid 41, whose first lies at the other pole, in the last row
 corners : map (λ k. charted (shape_of (of 37)) (record { 0 = k })) (0 ∷ 72 ∷ 73 ∷ 3444 ∷ 3445 ∷ 3446 ∷ 3447 ∷ [])
-    ≡ On (record { row = 72; column = 0 })
-    ∷ On (record { row = 72; column = 72 })
-    ∷ On (record { row = 71; column = 0 })
-    ∷ On (record { row = 1; column = 2 })
-    ∷ On (record { row = 0; column = 0 })
-    ∷ On (record { row = 0; column = 1 })
-    ∷ Off
+    ≡ Some (record { row = 72; column = 0 })
+    ∷ Some (record { row = 72; column = 72 })
+    ∷ Some (record { row = 71; column = 0 })
+    ∷ Some (record { row = 1; column = 2 })
+    ∷ Some (record { row = 0; column = 0 })
+    ∷ Some (record { row = 0; column = 1 })
+    ∷ None
     ∷ []
 unfolding computes
 corners = refl
 
 southern : map (λ k. charted (shape_of (of 41)) (record { 0 = k })) (0 ∷ 1 ∷ 2 ∷ 3373 ∷ 3374 ∷ 3446 ∷ 3447 ∷ [])
-    ≡ On (record { row = 72; column = 0 })
-    ∷ On (record { row = 72; column = 1 })
-    ∷ On (record { row = 71; column = 0 })
-    ∷ On (record { row = 1; column = 72 })
-    ∷ On (record { row = 0; column = 0 })
-    ∷ On (record { row = 0; column = 72 })
-    ∷ Off
+    ≡ Some (record { row = 72; column = 0 })
+    ∷ Some (record { row = 72; column = 1 })
+    ∷ Some (record { row = 71; column = 0 })
+    ∷ Some (record { row = 1; column = 72 })
+    ∷ Some (record { row = 0; column = 0 })
+    ∷ Some (record { row = 0; column = 72 })
+    ∷ None
     ∷ []
 unfolding computes
 southern = refl
@@ -71,7 +70,7 @@ southern = refl
 -- "a position at or past its row's count is outside": the northernmost row of grid 37 has two points, that of 41 has 73
 ends : map (pointed (shape_of (of 37)))
     (record { row = 0; column = 1 } ∷ record { row = 0; column = 2 } ∷ record { row = 73; column = 0 } ∷ [])
-    ≡ At (record { 0 = 3446 }) ∷ Nowhere ∷ Nowhere ∷ []
+    ≡ Some (record { 0 = 3446 }) ∷ None ∷ None ∷ []
 unfolding computes
 ends = refl
 

@@ -1,4 +1,5 @@
 -- Each reply number, computed: from the specimen by one change for each, and the cases at each edge.
+use Rattle.std.specs.Prelude.{None, Some}
 use mathlib.Core.Path.{◌≡◌, refl}
 use mathlib.Core.List.{List, [], ◌∷◌, ◌++◌, map}
 use mathlib.Core.Bool.{true, false}
@@ -6,8 +7,7 @@ use Prim.Native.Nat.{ℕ, ◌+◌, ◌/◌, ◌%◌}
 use lib.IntN.{ℤ, pos, negsuc}
 use lib.ListN.{set, take, drop, length}
 use Rattle.rules.specs.declared.{Geometry.TheVariants.LatLon, Grid.Grid, Form.Form}
-use Rattle.rules.specs.declared.{Found.TheVariants.Nothing}
-use Rattle.rules.specs.declared.{Found.TheVariants.Given, Bitmap.TheVariants.Without}
+use Rattle.rules.specs.declared.{Bitmap.TheVariants.Without}
 use Rattle.rules.specs.declared.{Bitmap.TheVariants.Carried, Bitmap.TheVariants.Stored}
 use Rattle.rules.specs.Numbers.{plain}
 use Rattle.rules.specs.Table.{refusal, any_of}
@@ -114,13 +114,13 @@ upside_down = record {
 writing : map (λ w. (write_of w specimen).refusal.number)
     (with-pds (set parts.pds 2 30)
     ∷ with-pds (set parts.pds 13 0)
-    ∷ with-form (record { grid = Nothing; bitmap = Carried; packing = form.packing })
-    ∷ with-form (record { grid = Given upside_down; bitmap = Carried; packing = form.packing })
-    ∷ with-form (record { grid = Given grid; bitmap = Stored 7; packing = form.packing })
-    ∷ with-form (record { grid = Given grid; bitmap = Carried; packing = record { flags = 4; bits = 3 } })
+    ∷ with-form (record { grid = None; bitmap = Carried; packing = form.packing })
+    ∷ with-form (record { grid = Some upside_down; bitmap = Carried; packing = form.packing })
+    ∷ with-form (record { grid = Some grid; bitmap = Stored 7; packing = form.packing })
+    ∷ with-form (record { grid = Some grid; bitmap = Carried; packing = record { flags = 4; bits = 3 } })
     ∷ record { pds = parts.pds; form = form; scale = record { e = plain (negsuc 32767); r = 0 }; lent = nothing; values = parts.values; marks = parts.marks }
-    ∷ with-form (record { grid = Given grid; bitmap = Without; packing = form.packing })
-    ∷ with-form (record { grid = Given grid; bitmap = Carried; packing = record { flags = 2; bits = 2 } })
+    ∷ with-form (record { grid = Some grid; bitmap = Without; packing = form.packing })
+    ∷ with-form (record { grid = Some grid; bitmap = Carried; packing = record { flags = 2; bits = 2 } })
     ∷ [])
     ++ ((write_of parts (drop 1 specimen)).refusal.number ∷ [])
     ≡ 5 ∷ 6 ∷ 7 ∷ 9 ∷ 10 ∷ 11 ∷ 11 ∷ 13 ∷ 13 ∷ 14 ∷ []
@@ -155,7 +155,7 @@ halves = refl
 
 -- packing: "Spread 8,388,607 with N = 0: E = 24; one more: 19"; a list that is not n long is 13, and 15 comes before it
 abbrev no_bits : Form
-no_bits = record { grid = Given grid; bitmap = Carried; packing = record { flags = 0; bits = 0 } }
+no_bits = record { grid = Some grid; bitmap = Carried; packing = record { flags = 0; bits = 0 } }
 
 abbrev spread : ℤ → Source
 spread v = with-numbers (v ∷ pos 0 ∷ pos 77 ∷ pos 4194303 ∷ []) source.marks (pos 1)

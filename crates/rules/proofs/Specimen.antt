@@ -1,4 +1,5 @@
 -- The specimen of document 01, computed: read, shown, taken apart, written, packed, checked, listed.
+use Rattle.std.specs.Prelude.{Some}
 use mathlib.Core.Path.{◌≡◌, refl}
 use mathlib.Core.List.{[], ◌∷◌, ◌++◌, map}
 use mathlib.Core.Bool.{true, false}
@@ -6,7 +7,7 @@ use lib.IntN.{pos, negsuc}
 use lib.ListN.{take, drop}
 use lib.Ieee.{binary64, of_bits}
 use Rattle.rules.specs.declared.{Geometry.TheVariants.LatLon}
-use Rattle.rules.specs.declared.{Grid.Grid, Form.Form, Found.TheVariants.Given, Bitmap.TheVariants.Carried}
+use Rattle.rules.specs.declared.{Grid.Grid, Form.Form, Bitmap.TheVariants.Carried}
 use Rattle.rules.specs.Numbers.{plain}
 use Rattle.rules.specs.Table.{refusal}
 use Rattle.rules.specs.Chart.{spot_of}
@@ -94,7 +95,7 @@ shown = refl
 
 -- the specimen's parts: reading gives them, and writing them gives the specimen
 abbrev pub form : Form
-form = record { grid = Given grid; bitmap = Carried; packing = record { flags = 0; bits = 3 } }
+form = record { grid = Some grid; bitmap = Carried; packing = record { flags = 0; bits = 3 } }
 
 abbrev pub parts : Parts
 parts = record { pds = take 28 (drop 8 specimen); form = form; scale = record { e = plain (pos 0); r = 0x439c4000 }; lent = nothing; values = 0 ∷ 2 ∷ 0 ∷ 7 ∷ []; marks = 1 ∷ 1 ∷ 0 ∷ 1 ∷ [] }

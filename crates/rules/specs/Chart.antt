@@ -1,10 +1,9 @@
 -- Document 01, "Points and the chart", and document 02, R-1: the row and column of a grid point and back, over the
 -- shape of a grid alone.
-use Rattle.std.specs.Prelude.{ℕ, ◌+◌, ◌-◌, ◌*◌, ◌/◌, ◌%◌, Bool, ◌&&◌, cond, List, ltb, length, get_or}
-use Rattle.rules.specs.declared.{Shape.Shape, Shape.TheVariants.Even, Shape.TheVariants.Uneven}
-use Rattle.rules.specs.declared.{GridPoint.GridPoint, Spot.Spot, Charted.Charted}
-use Rattle.rules.specs.declared.{Charted.TheVariants.On, Charted.TheVariants.Off, Pointed.Pointed}
-use Rattle.rules.specs.declared.{Pointed.TheVariants.At, Pointed.TheVariants.Off as Nowhere}
+use Rattle.std.specs.Prelude.{ℕ, ◌+◌, ◌-◌, ◌*◌, ◌/◌, ◌%◌, Bool, ◌&&◌, cond, List, ltb, length, get_or, None, Option}
+use Rattle.std.specs.Prelude.{Some}
+use Rattle.rules.specs.declared.{Shape.Shape, Shape.TheVariants.Even, Shape.TheVariants.Uneven, Grid.Grid}
+use Rattle.rules.specs.declared.{GridPoint.GridPoint, Spot.Spot}
 use Rattle.rules.specs.Numbers.{bit}
 use Rattle.rules.specs.Counts.{total, row_of, in_row, the_before_row, counts_of}
 
@@ -82,10 +81,10 @@ the_point_on (Even q) c = point_of q.ni q.nj q.scan c
 the_point_on (Uneven u) c = the_point_among (counts_of u.start) u.scan c
 
 -- a number that is no grid point's, and a place outside the chart, have a case of their own
-unfoldable pub charted : Shape → GridPoint → Charted
-charted g k = cond (ltb k.0 (the_points_on g)) (On (the_spot_on g k.0)) Off
+unfoldable pub charted : Shape → GridPoint → Option Spot
+charted g k = cond (ltb k.0 (the_points_on g)) (Some (the_spot_on g k.0)) None
 
-unfoldable pub pointed : Shape → Spot → Pointed
+unfoldable pub pointed : Shape → Spot → Option GridPoint
 pointed g c =
     cond (ltb c.row (the_rows_on g) && ltb c.column (the_row_long g c.row))
-    (At (record { 0 = the_point_on g c })) Nowhere
+    (Some (record { 0 = the_point_on g c })) None

@@ -2,11 +2,10 @@
 -- points. The ones are those of the bitmap in force; "With no bitmap every point counts as a one", as `present_in` has
 -- it.
 use Rattle.std.specs.Prelude.{ℕ, ◌+◌, ◌-◌, ◌*◌, ◌/◌, ◌%◌, Bool, true, false, not, cond, List, [], ◌∷◌, ◌++◌, ltb, eqb}
+use Rattle.std.specs.Prelude.{Err, None, Ok, Option, Result, Some}
 use Rattle.std.specs.Prelude.{length, get_or}
-use Rattle.rules.specs.declared.{Refusal.Refusal, Shape.Shape, Spot.Spot, Pointed.Pointed}
-use Rattle.rules.specs.declared.{Pointed.TheVariants.At, Pointed.TheVariants.Off as Nowhere, Indexed.Indexed}
-use Rattle.rules.specs.declared.{UnderCursor.UnderCursor, UnderCursor.TheVariants.Refused}
-use Rattle.rules.specs.declared.{UnderCursor.TheVariants.Absent, UnderCursor.TheVariants.Value}
+use Rattle.rules.specs.declared.{Refusal.Refusal, Shape.Shape, Spot.Spot, Grid.Grid, GridPoint.GridPoint}
+use Rattle.rules.specs.Answers.{Indexed}
 use Rattle.bits.specs.Bits.{count}
 use Rattle.bits.specs.Tables.{tab}
 use Rattle.rules.specs.Bounds.{group_long}
@@ -79,9 +78,9 @@ index_faults index n m g ones =
 unfoldable pub shape_in : List ℕ → Shape
 shape_in s = shape_of (grid_or_zeros (grid_of s))
 
-abbrev pub off_chart : Pointed → Bool
-off_chart (At k) = false
-off_chart Nowhere = true
+abbrev pub off_chart : Option GridPoint → Bool
+off_chart (Some k) = false
+off_chart None = true
 
 -- 25 of the group of grid point i
 unfoldable pub index_bad : List ℕ → Lent → List ℕ → ℕ → Bool
@@ -105,12 +104,12 @@ unfoldable pub cursor_number : (ℕ → ℕ) → List ℕ → ℕ → ℕ
 cursor_number present index i = entry_of index (group_of i) + ones_up_to present i
 
 -- "the value or absence" of grid point i, and of a place
-unfoldable pub under_at : List ℕ → Lent → List ℕ → ℕ → UnderCursor
+unfoldable pub under_at : List ℕ → Lent → List ℕ → ℕ → Result (Option ℕ) Refusal
 under_at s lent index i =
     let present = present_in s lent in
-    cond (eqb (present i) 1) (Value (get_or (data_in s lent) (cursor_number present index i) 0)) Absent
+    cond (eqb (present i) 1) (Ok (Some (get_or (data_in s lent) (cursor_number present index i) 0))) (Ok None)
 
-unfoldable pub cursor_of : List ℕ → Lent → List ℕ → Spot → UnderCursor
+unfoldable pub cursor_of : List ℕ → Lent → List ℕ → Spot → Result (Option ℕ) Refusal
 cursor_of s lent index c =
     let r = cursor_refusal s lent index c in
-    answered r (under_at s lent index (the_point_on (shape_in s) c)) (Refused r)
+    answered r (under_at s lent index (the_point_on (shape_in s) c)) (Err r)

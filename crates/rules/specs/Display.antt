@@ -4,7 +4,7 @@ use Rattle.std.specs.Int.Signed.{lt_z}
 use Rattle.std.specs.Int.Count.{count_leading_zeros}
 use Rattle.std.specs.Float.{binary64}
 use Rattle.std.specs.Float.Ieee.{of_bits}
-use Rattle.rules.specs.declared.{Display.Display}
+use Rattle.rules.specs.Answers.{Display}
 use Rattle.rules.specs.Bounds.{shown_least, shown_most}
 use Rattle.rules.specs.Table.{Row, row, first, answered}
 use Rattle.rules.specs.Bitmap.{Lent}

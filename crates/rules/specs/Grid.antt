@@ -1,6 +1,7 @@
 -- Document 01, "GDS", the catalogue, and refusals 7 to 9; document 02, R-1, the thinned octants, and R-4, "Mercator,
 -- Lambert, Gaussian and polar stereographic grids".
 use Rattle.std.specs.Prelude.{ℕ, zero, suc, ◌+◌, ◌*◌, Bool, true, false, not, ◌&&◌, ◌||◌, cond, List, [], ◌∷◌, ◌++◌}
+use Rattle.std.specs.Prelude.{None, Option, Some}
 use Rattle.std.specs.Prelude.{map, ltb, eqb, ℤ, pos, negsuc}
 use Rattle.std.specs.Int.Signed.{lt_z}
 use Rattle.rules.specs.declared.{Signed.Signed, Part.Part, Start.Start, Start.TheVariants.Equator}
@@ -10,8 +11,7 @@ use Rattle.rules.specs.declared.{Plane.Plane, Geometry.Geometry}
 use Rattle.rules.specs.declared.{Geometry.TheVariants.LatLon, Geometry.TheVariants.Thinned}
 use Rattle.rules.specs.declared.{Geometry.TheVariants.Mercator, Geometry.TheVariants.Lambert}
 use Rattle.rules.specs.declared.{Geometry.TheVariants.Gaussian, Geometry.TheVariants.Polar, Figures.Figures}
-use Rattle.rules.specs.declared.{Grid.Grid, Entry.Entry, Found.Found, Found.TheVariants.Nothing}
-use Rattle.rules.specs.declared.{Found.TheVariants.Given}
+use Rattle.rules.specs.declared.{Grid.Grid, Entry.Entry}
 use Rattle.rules.specs.Bounds.{octant_rows, points_most}
 use Rattle.rules.specs.Counts.{counts_of}
 use Rattle.rules.specs.Chart.{north, the_points_on}
@@ -216,20 +216,20 @@ unfoldable pub catalogue : List Entry
 catalogue = rectangles ++ octants
 
 -- the first row of a number
-unfoldable pub lookup : List Entry → ℕ → Found
-lookup [] n = Nothing
-lookup (e ∷ es) n = cond (eqb e.number n) (Given e.grid) (lookup es n)
+unfoldable pub lookup : List Entry → ℕ → Option Grid
+lookup [] n = None
+lookup (e ∷ es) n = cond (eqb e.number n) (Some e.grid) (lookup es n)
 
 -- "Without a GDS, PDS octet 7 picks from this catalogue .. With one, the GDS decides and octet 7 is not compared", of a
 -- PDS at place p
-unfoldable pub the_grid_from : Found → List ℕ → ℕ → Found
-the_grid_from (Given g) s p = Given g
-the_grid_from Nothing s p = lookup catalogue (octet s p 7)
+unfoldable pub the_grid_from : Option Grid → List ℕ → ℕ → Option Grid
+the_grid_from (Some g) s p = Some g
+the_grid_from None s p = lookup catalogue (octet s p 7)
 
 -- 7: "no GDS, octet 7 not in the catalogue"
-abbrev pub the_grid_missing : Found → Bool
-the_grid_missing Nothing = true
-the_grid_missing (Given g) = false
+abbrev pub the_grid_missing : Option Grid → Bool
+the_grid_missing None = true
+the_grid_missing (Some g) = false
 
 unfoldable pub the_no_grid : Grid
 the_no_grid =
@@ -245,9 +245,9 @@ the_no_grid =
     }
 
 -- the grid; zeros where there is none, which 7 refuses
-abbrev pub grid_or_zeros : Found → Grid
-grid_or_zeros Nothing = the_no_grid
-grid_or_zeros (Given g) = g
+abbrev pub grid_or_zeros : Option Grid → Grid
+grid_or_zeros None = the_no_grid
+grid_or_zeros (Some g) = g
 
 -- "If Nj > 1, rows running north need La2 above La1, else La2 below La1; with Nj = 1 this is not tested"
 unfoldable pub the_scan_bad : ℕ → ℕ → Signed → Signed → Bool

@@ -10,6 +10,7 @@
 pub mod Bounds
 pub mod Numbers
 pub mod Table
+pub mod Answers
 pub mod Places
 pub mod Walk
 pub mod Time

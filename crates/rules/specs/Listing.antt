@@ -2,7 +2,9 @@
 use Rattle.std.specs.Prelude.{ℕ, zero, suc, ◌+◌, ◌-◌, ◌/◌, ◌%◌, ◌^◌, cond, List, [], ◌∷◌, ◌++◌, ltb, eqb, ℤ, pos}
 use Rattle.std.specs.Prelude.{negsuc, length, get_or}
 use Rattle.bits.specs.Tables.{tab, least_below}
-use Rattle.rules.specs.declared.{Refusal.Refusal, Shape.Shape, Header.Header}
+use Rattle.rules.specs.declared.{Refusal.Refusal, Shape.Shape}
+use Rattle.rules.specs.declared.{Header.Header as Said}
+use Rattle.rules.specs.Answers.{said_by}
 use Rattle.rules.specs.Bounds.{listed_most, listed_room}
 use Rattle.rules.specs.Table.{row, first_or, accepted}
 use Rattle.rules.specs.Bitmap.{Lent, marks_long, value_of}
@@ -85,7 +87,7 @@ unfoldable pub row_lines : (ℕ → ℕ) → List ℕ → Shape → List ℕ
 row_lines present values g = joined_to (row_line present values g) (the_rows_on g)
 
 -- "Line 1: points, present, columns, rows, D, E, R as eight hex digits, N"
-unfoldable pub the_first_line : Header → List ℕ
+unfoldable pub the_first_line : Said → List ℕ
 the_first_line h =
     line_of
     (decimal h.points
@@ -113,5 +115,6 @@ unfoldable pub listing_of : List ℕ → List ℕ
 listing_of s =
     let r = listing_refusal s in
     let h = found_in s no_store in
-    cond (accepted r) (the_first_line h ++ row_lines (present_in s no_store) (values_in s no_store) (shape_of h.grid))
+    cond (accepted r)
+    (the_first_line (said_by h) ++ row_lines (present_in s no_store) (values_in s no_store) (shape_of h.grid))
     (refused_line r.number)

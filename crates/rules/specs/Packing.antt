@@ -2,7 +2,8 @@
 use Rattle.std.specs.Prelude.{ℕ, zero, suc, ◌+◌, ◌-◌, ◌*◌, ◌/◌, ◌^◌, Bool, not, ◌&&◌, cond, List, ◌∷◌, ltb, leb, eqb, ℤ}
 use Rattle.std.specs.Prelude.{pos, negsuc, nat_abs, ◌-ℤ◌, length}
 use Rattle.std.specs.Int.Signed.{lt_z}
-use Rattle.rules.specs.declared.{Refusal.Refusal, Form.Form, Written.Written}
+use Rattle.rules.specs.declared.{Refusal.Refusal, Form.Form}
+use Rattle.rules.specs.Answers.{Written}
 use Rattle.rules.specs.Bounds.{source_most, step_most}
 use Rattle.bits.specs.Bits.{count}
 use Rattle.bits.specs.Tables.{tab, least_below}

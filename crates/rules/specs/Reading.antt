@@ -1,9 +1,10 @@
 -- Document 01, "Reply numbers": the reader's table, the header, the lists that reading writes, the sections.
-use Rattle.std.specs.Prelude.{ℕ, ◌&&◌, ◌||◌, cond, List, [], ◌∷◌, ◌++◌, ltb, eqb, pos, length, get_or}
-use Rattle.rules.specs.declared.{Refusal.Refusal, Signed.Signed, Part.Part, Found.Found}
-use Rattle.rules.specs.declared.{Found.TheVariants.Nothing, Found.TheVariants.Given, Bitmap.Bitmap}
+use Rattle.std.specs.Prelude.{ℕ, ◌&&◌, ◌||◌, cond, List, [], ◌∷◌, ◌++◌, ltb, eqb, pos, length, get_or, None, Option}
+use Rattle.std.specs.Prelude.{Some}
+use Rattle.rules.specs.declared.{Refusal.Refusal, Signed.Signed, Part.Part, Grid.Grid}
+use Rattle.rules.specs.declared.{Bitmap.Bitmap}
 use Rattle.rules.specs.declared.{Bitmap.TheVariants.Without, Packing.Packing, Scale.Scale, Parsed.Parsed}
-use Rattle.rules.specs.declared.{Header.Header}
+use Rattle.rules.specs.Answers.{Header}
 use Rattle.bits.specs.Bits.{count}
 use Rattle.rules.specs.Numbers.{plain, decimal_at}
 use Rattle.rules.specs.Table.{Row, row, any_of, first, refusal, answered, filled}
@@ -21,10 +22,10 @@ use Rattle.rules.specs.Values.{the_packing_at, scale_at, packing_faults, the_len
 
 -- the parts of a message, whatever its octets are: its GDS's grid if it has one, its grid, the kind of its bitmap, and
 -- so on
-unfoldable pub grid_in : List ℕ → Found
-grid_in s = cond (the_has_grid s pds_start) (Given (the_grid_at s (places_of s).gds)) Nothing
+unfoldable pub grid_in : List ℕ → Option Grid
+grid_in s = cond (the_has_grid s pds_start) (Some (the_grid_at s (places_of s).gds)) None
 
-unfoldable pub grid_of : List ℕ → Found
+unfoldable pub grid_of : List ℕ → Option Grid
 grid_of s = the_grid_from (grid_in s) s pds_start
 
 unfoldable pub points_in : List ℕ → ℕ

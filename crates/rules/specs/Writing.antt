@@ -1,10 +1,11 @@
 -- Document 01, writing: its rows 5, 6, 7, 9, 10, 11, 13, 14 over the parts given, and the octets of the message.
-use Rattle.std.specs.Prelude.{ℕ, ◌+◌, ◌%◌, ◌^◌, Bool, true, false, not, ◌&&◌, ◌||◌, cond, List, [], ◌∷◌, ltb, leb, eqb}
+use Rattle.std.specs.Prelude.{ℕ, ◌+◌, ◌%◌, ◌^◌, Bool, true, false, not, ◌&&◌, ◌||◌, cond, List, [], ◌∷◌, ltb, leb}
+use Rattle.std.specs.Prelude.{eqb, None, Option, Some}
 use Rattle.std.specs.Prelude.{pos, length}
-use Rattle.rules.specs.declared.{Refusal.Refusal, Found.Found, Found.TheVariants.Nothing}
-use Rattle.rules.specs.declared.{Found.TheVariants.Given, Bitmap.Bitmap, Bitmap.TheVariants.Without}
+use Rattle.rules.specs.declared.{Refusal.Refusal, Grid.Grid}
+use Rattle.rules.specs.declared.{Bitmap.Bitmap, Bitmap.TheVariants.Without}
 use Rattle.rules.specs.declared.{Bitmap.TheVariants.Carried, Bitmap.TheVariants.Stored, Form.Form, Scale.Scale}
-use Rattle.rules.specs.declared.{Written.Written}
+use Rattle.rules.specs.Answers.{Written}
 use Rattle.rules.specs.Bounds.{pds_least, pds_most, exponent_most}
 use Rattle.bits.specs.Bits.{bits_in}
 use Rattle.bits.specs.Tables.{tab, any_below}
@@ -27,7 +28,7 @@ pub record Parts : Type 0 where
   pub marks : List ℕ
 
 -- "a given grid is judged by 9, without one 7 applies, and n is that grid's"
-unfoldable pub grid_for : Parts → Found
+unfoldable pub grid_for : Parts → Option Grid
 grid_for w = the_grid_from w.form.grid w.pds 0
 
 unfoldable pub points_for : Parts → ℕ
@@ -50,9 +51,9 @@ stored_faults (Stored number) lent values marks n =
     (lists_fit values marks n && any_below (λ i. not (eqb (bits_in 8 lent.octets i) (mark_of marks i))) n)
     ∷ lent_faults lent number n
 
-abbrev pub the_grid_given : Found → Bool
-the_grid_given Nothing = false
-the_grid_given (Given g) = true
+abbrev pub the_grid_given : Option Grid → Bool
+the_grid_given None = false
+the_grid_given (Some g) = true
 
 -- 13, at one point: "an absent point without a bitmap or with value not 0, a value of 2^N or more"
 unfoldable pub point_bad : Bool → ℕ → ℕ → ℕ → Bool
@@ -74,9 +75,9 @@ parts_faults w =
     ∷ []
 
 -- a GDS of the grid given, none where none is
-abbrev pub gds_for : Found → List ℕ
-gds_for Nothing = []
-gds_for (Given g) = gds_of g
+abbrev pub gds_for : Option Grid → List ℕ
+gds_for None = []
+gds_for (Some g) = gds_of g
 
 -- the sections that stand between the indicator and the end, "'7777'"
 unfoldable pub sections_for : Parts → List (List ℕ)

@@ -1,11 +1,11 @@
 -- Parts of a number that octets make: its first bits, and a value's.
 use mathlib.Core.Path.{◌≡◌, sym, ap, ◌∙◌}
 use mathlib.Core.List.{List}
-use Prim.Native.Nat.{ℕ, ◌+◌, ◌*◌, ◌/◌, ◌%◌, ◌^◌, ◌≤◌, ◌<◌}
-use native.Mathlib.Nat.{add-mul, mul-le-mul_right, mod-lt, lt_of_lt_of_le}
+use Prim.Native.Nat.{ℕ, ◌+◌, ◌*◌, ◌/◌, ◌%◌, ◌^◌, ◌≤◌}
+use native.Mathlib.Nat.{add-mul, mul-le-mul_right}
 use native.Mathlib.Omega.{arith}
 use lib.ListN.{length}
-use lib.Pow.{high, pow_pos, pow_mono}
+use lib.Pow.{high}
 use Rattle.bits.specs.Bits.{bits_in, run}
 use Rattle.bits.proofs.Runs.{Bits, bits_in-bits, run-lt, run-split, run-field}
 
@@ -14,10 +14,6 @@ pub first-bits : {f : ℕ → ℕ} → Bits f → (at c r t : ℕ) → c + r ≡
 first-bits {f} b at c r t e =
     ap (λ (x : ℕ). run f at x / 2 ^ r) (sym e) ∙ ap (λ (x : ℕ). x / 2 ^ r) (run-split f at c r)
     ∙ high (run f at c) r (run-lt b (at + c) r)
-
--- a part of n bits fits 32
-pub part-lt : (w up n : ℕ) → n ≤ 32 → w / 2 ^ up % 2 ^ n < 2 ^ 32
-part-lt w up n h = lt_of_lt_of_le (mod-lt (w / 2 ^ up) (pow_pos n)) (pow_mono {j = 32} h)
 
 -- the n bits of the first c that i bits precede and `up` follow
 pub part-is : (s : List ℕ) (k c i n up w x : ℕ) → w ≡ run (bits_in 8 s) (k * 8) c → i + n + up ≡ c

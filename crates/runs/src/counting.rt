@@ -12,14 +12,12 @@ fn ones_inside(s: &[u8], p: usize, c: usize) -> u32
     ensures { result ≡ count (bits_in 8 s.now) (p * 8) (c * 8) }
 {
     let mut total: u32 = 0;
-    let mut j: usize = 0;
-    while c - j >= 8 {
-        total += u64::count_ones(reversed8(s, p + j));
-        j += 8;
+    let eights = c / 8;
+    for g in 0..eights {
+        total += u64::count_ones(reversed8(s, p + g * 8));
     }
-    while j < c {
+    for j in eights * 8..c {
         total += u8::count_ones(s[p + j]);
-        j += 1;
     }
     total
 }

@@ -49,21 +49,17 @@ fn unpack_eights(s: &[u8], at: usize, n: usize, out: &mut [u32], m: usize) -> us
         × (out.new ≡ runs (bits_in 8 s.now) at n result ++ drop result out.old) }
 {
     let skip = at % 8;
-    let mut k = at / 8;
-    let mut i: usize = 0;
-    while m - i >= 8 {
+    let eights = m / 8;
+    for g in 0..eights {
+        let k = at / 8 + g * n;
         let w = eight_at(s, k, skip, n);
-        let mut j: usize = 0;
         let mut up = n * 8;
-        while j < 8 {
+        for j in 0..8 {
             up -= n;
-            out[i + j] = part(w, up, n);
-            j += 1;
+            out[g * 8 + j] = part(w, up, n);
         }
-        k += n;
-        i += 8;
     }
-    i
+    eights * 8
 }
 
 // Where they do not: the eight octets at a value's place are read once, for that value and the next. Eight more values
@@ -75,23 +71,18 @@ fn unpack_pairs(s: &[u8], at: usize, n: usize, out: &mut [u32], m: usize) -> usi
     ensures { (result ≤ m)
         × (out.new ≡ runs (bits_in 8 s.now) at n result ++ drop result out.old) }
 {
-    let skip = at % 8;
-    let mut k = at / 8;
-    let mut i: usize = 0;
-    while m - i >= 16 {
-        let mut j: usize = 0;
-        let mut p = skip;
-        while j < 8 {
+    let eights = (m / 8).saturating_sub(1);
+    for g in 0..eights {
+        let k = at / 8 + g * n;
+        let mut p = at % 8;
+        for j in 0..4 {
             let w = leading(s, k + p / 8, p % 8 + n * 2);
-            out[i + j] = part(w, n, n);
-            out[i + j + 1] = part(w, 0, n);
+            out[g * 8 + j * 2] = part(w, n, n);
+            out[g * 8 + j * 2 + 1] = part(w, 0, n);
             p += n * 2;
-            j += 2;
         }
-        k += n;
-        i += 8;
     }
-    i
+    eights * 8
 }
 
 // Most of the values, the way that their width and place allow; how many.
@@ -116,12 +107,10 @@ fn unpack_inside(s: &[u8], at: usize, n: usize, out: &mut [u32], m: usize)
     requires m_in_bounds { m ≤ length out.old }
     ensures { out.new ≡ runs (bits_in 8 s.now) at n m ++ drop m out.old }
 {
-    let mut i = unpack_most(s, at, n, out, m);
-    let mut place = at + i * n;
-    while i < m {
+    let first = unpack_most(s, at, n, out, m);
+    for i in first..m {
+        let place = at + i * n;
         out[i] = value(s, place / 8, place % 8, n);
-        place += n;
-        i += 1;
     }
 }
 
@@ -132,38 +121,25 @@ fn unpack_each(s: &[u8], at: usize, n: usize, out: &mut [u32], m: usize)
     requires m_in_bounds { m ≤ length out.old }
     ensures { out.new ≡ runs (bits_in 8 s.now) at n m ++ drop m out.old }
 {
-    let mut place = at;
-    let mut i: usize = 0;
-    while i < m {
-        out[i] = taken(s, place, n);
-        place += n;
-        i += 1;
+    for i in 0..m {
+        out[i] = taken(s, at + i * n, n);
     }
 }
 
-// Values of eight bits from octet k on.
-fn unpack_8(s: &[u8], k: usize, out: &mut [u32], m: usize)
-    requires m_in_bounds { k + m ≤ length s.now }
+// Values of C whole octets each, from octet k on. C is a constant, so that the compiler makes a loop of its own of
+// each.
+fn unpack_octets<const C: usize>(s: &[u8], k: usize, out: &mut [u32], m: usize)
+    requires few { C ≤ 3 }
+    requires m_in_bounds { k + m * C ≤ length s.now }
     requires m_in_bounds_2 { m ≤ length out.old }
-    ensures { out.new ≡ runs (bits_in 8 s.now) (k * 8) 8 m ++ drop m out.old }
+    ensures { out.new ≡ runs (bits_in 8 s.now) (k * 8) (C * 8) m ++ drop m out.old }
 {
-    let mut i: usize = 0;
-    while i < m {
-        out[i] = low(s[k + i]);
-        i += 1;
-    }
-}
-
-// Values of sixteen bits from octet k on.
-fn unpack_16(s: &[u8], k: usize, out: &mut [u32], m: usize)
-    requires m_in_bounds { k + m * 2 ≤ length s.now }
-    requires m_in_bounds_2 { m ≤ length out.old }
-    ensures { out.new ≡ runs (bits_in 8 s.now) (k * 8) 16 m ++ drop m out.old }
-{
-    let mut i: usize = 0;
-    while i < m {
-        out[i] = low(s[k + i * 2]) * 256 + low(s[k + i * 2 + 1]);
-        i += 1;
+    for i in 0..m {
+        let mut x: u32 = 0;
+        for j in 0..C {
+            x = x * 256 + low(s[k + i * C + j]);
+        }
+        out[i] = x;
     }
 }
 
@@ -177,9 +153,9 @@ fn unpack_all(s: &[u8], at: usize, n: usize, out: &mut [u32], m: usize)
     if (at + m * n) / 8 + 4 > s.len() {
         unpack_each(s, at, n, out, m);
     } else if (n == 8) & (at % 8 == 0) {
-        unpack_8(s, at / 8, out, m);
+        unpack_octets::<1>(s, at / 8, out, m);
     } else if (n == 16) & (at % 8 == 0) {
-        unpack_16(s, at / 8, out, m);
+        unpack_octets::<2>(s, at / 8, out, m);
     } else {
         unpack_inside(s, at, n, out, m);
     }

@@ -1,24 +1,25 @@
 -- R from what the walk finds; and E from the greatest r, which alone decides it.
 use mathlib.Core.Path.{◌≡◌, refl, sym, ap, ap₂, ◌∙◌, subst}
 use mathlib.Core.Bool.{Bool, true, false, not, cond}
-use mathlib.Core.Logic.{⊎_elim}
+use mathlib.Core.Logic.{inl, ⊎_elim}
 use mathlib.Core.List.{List}
-use Prim.Native.Nat.{ℕ, suc, ◌+◌, ◌^◌, ◌<◌, ◌≤◌}
-use native.Mathlib.Numerals.{add-one}
+use Prim.Native.Nat.{ℕ, zero, suc, ◌+◌, ◌^◌, ◌<◌, ◌≤◌}
 use native.Mathlib.Omega.{arith}
+use borrow.Author.Tests.{eqb-true, not-false}
 use lib.Dec.{leb, eqb}
 use lib.IntN.{ℤ, pos, nat_abs, ◌-ℤ◌}
 use lib.Signed.{lt_z, mag}
 use lib.ListN.{length, get_or}
 use lib.Pow.{pow_pos}
 use Rattle.bits.specs.Bits.{count}
-use Rattle.bits.proofs.Below.{least, upto}
+use Rattle.bits.proofs.Below.{least}
+use Rattle.bits.proofs.Runs.{lt_or_ge}
 use Rattle.rules.specs.Bounds.{step_most}
 use Rattle.rules.specs.Bitmap.{mark_of}
 use Rattle.rules.specs.Checking.{Source, any_present}
 use Rattle.rules.specs.Packing.{reference, stepped, above, too_wide, exponent}
 use Rattle.laws.proofs.Lowest.{reference-under}
-use Rattle.scaling.specs.Spread.{some_in, lowest_in, Highest, spread_of, least_for}
+use Rattle.scaling.specs.Spread.{some_in, lowest_in, floor, Highest, spread_of, least_for}
 use Rattle.scaling.proofs.Distances.{farther, floor-spread}
 use Rattle.scaling.proofs.Stepping.{wide-none, wide-one, the_least}
 
@@ -77,6 +78,24 @@ module _ (numbers : List ℤ) (marks : List ℕ) (d : ℤ) where
           before = λ k l. ap not (sym (wide_is bits k)) ∙ o.before k l;
         })
 
+-- where no point is present the floor is the highest
+counted_zero : (f : ℕ → ℕ) (n : ℕ) → count f 0 n ≡ 0 → (i : ℕ) → i < n → f i ≡ 0
+unfolding count
+counted_zero f zero e i l = absurd (omega arith)
+counted_zero f (suc n) e i l = ⊎_elim
+    (λ (h : i < n). counted_zero f n (omega arith) i h)
+    (λ (h : n ≤ i).
+    let q : i ≡ 0 + n = omega arith in
+    ap f q ∙ omega arith)
+    (lt_or_ge i n)
+
+pub none_highest : (numbers : List ℤ) (marks : List ℕ) (n : ℕ) → some_in marks n ≡ false → Highest numbers marks n floor
+none_highest numbers marks n h =
+    let none : (i : ℕ) → i < n → mark_of marks i ≡ 1 → ⊥ = λ i l e.
+    let z = counted_zero (mark_of marks) n (eqb-true _ 0 (not-false _ h)) i l in
+    omega arith in
+    record { over = λ i l e. absurd (none i l e); from = inl (none, refl) }
+
 -- the loop over E
 abbrev fitting : ℕ → ℕ → ℕ → Bool
 fitting bits r e = not (leb (2 ^ bits) (stepped e r))
@@ -96,6 +115,3 @@ module _ (bits r e : ℕ) (h : NoneBefore bits r e) where
     pub least-found : e < suc step_most → not t ≡ true → e ≡ least_for bits r
     least-found l s =
         the_least (fitting bits r) (suc step_most) e (record { within = omega arith; passes = λ m. sym fitting-is ∙ s; before = h })
-
-    pub least_on : not t ≡ false → NoneBefore bits r (e + 1)
-    least_on s = rw add-one (upto (λ k. fitting bits r k ≡ false) e h (sym fitting-is ∙ s))

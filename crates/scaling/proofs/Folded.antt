@@ -2,21 +2,23 @@
 -- over a block, by induction on its points, each of them present or absent.
 use mathlib.Core.Path.{◌≡◌, refl, sym, ap, ap₂, ◌∙◌, subst}
 use mathlib.Core.List.{List, [], ◌∷◌}
-use Prim.Native.Nat.{ℕ, zero, suc, ◌+◌, ◌-◌, ◌<◌, ◌≤◌}
+use Prim.Native.Nat.{ℕ, zero, suc, min, ◌+◌, ◌-◌, ◌*◌, ◌<◌, ◌≤◌}
 use native.Mathlib.Nat.{add-zero}
 use native.Mathlib.Numerals.{add-one}
 use native.Mathlib.Omega.{arith}
 use native.Mathlib.Decide.{ℕ_discrete}
 use borrow.Author.Tests.{eq-eqb, eqb-true}
 use lib.IntN.{ℤ, pos}
-use lib.ListN.{length, get_or, take, get_or-append}
-use lib.Seq.{get_or-take, get_or_at}
+use lib.ListN.{length, get_or, take, drop, get_or-append}
+use lib.Seq.{length-take-le, get_or-take, get_or_at}
+use Rattle.std.proofs.lemmas.List.{drop-take, take-take}
 use Rattle.bits.specs.Bits.{count}
 use Rattle.bits.proofs.Runs.{Bits}
 use Rattle.bits.proofs.Ones.{count-one, count_none}
 use Rattle.rules.specs.Bitmap.{mark_of}
 use Rattle.laws.specs.Marks.{here}
 use Rattle.gathering.specs.Gather.{here_from, gathered_of}
+use Rattle.gathering.proofs.Chunks.{Chunk}
 use Rattle.gathering.proofs.Here.{here-one, here-marked, here-from-bits}
 use Rattle.gathering.proofs.Gathered.{gathered_in, gathered-out, length-gathered-of, gathered-present}
 use Rattle.source.proofs.Blocks.{Gathered, part, part-long, part_at}
@@ -135,3 +137,31 @@ module _ (numbers : List ℤ) (marks : List ℕ) (i c : ℕ) (l : i + c ≤ leng
     where
       there : (j : ℕ) → mark_of marks (i + j) ≡ 1 → here marks (i + j) ≡ 1
       there j o = eqb-true _ _ (here-one marks (i + j) ∙ eq-eqb _ _ o)
+
+-- a chunk of the first n points of a field
+pub fold_chunk : (numbers : List ℤ) (marks : List ℕ) (n : ℕ) (block : List ℤ) (b before next : ℕ)
+    → Chunk (take n numbers) block b before next → n ≤ length numbers
+    → (m : ℕ) (held : List ℤ) → Gathered block marks (b * 256) m held → m ≤ length held
+    → (g : ℤ → ℤ → ℤ) (Q : ℤ → Type 0) (P : ℕ → ℤ → Type 0)
+    → ((k : ℕ) (w : ℤ) → mark_of marks k ≡ 1 → Q (get_or numbers k (pos 0)) → P k w → P (k + 1) (g (get_or numbers k (pos 0)) w))
+    → ((k : ℕ) (w : ℤ) → (mark_of marks k ≡ 1 → ⊥) → P k w → P (k + 1) w)
+    → (z w : ℤ) → w ≡ folded g z (λ k. get_or (take m held) k (pos 0)) (length (take m held))
+    → ((k : ℕ) → k < length (take m held) → Q (get_or (take m held) k (pos 0)))
+    → P (min (before * 256) (length (take n numbers))) z → P (min (next * 256) (length (take n numbers))) w
+fold_chunk numbers marks n block b before next t l m held h r g Q P i o z w e q p =
+    let k : length (take n numbers) ≡ n = length-take-le n numbers l in
+    let s : b * 256 + length block ≤ n = omega (arith, t.inside) in
+    let d : b * 256 + (n - b * 256) ≡ n = omega arith in
+    let u : take n numbers ≡ take (b * 256 + (n - b * 256)) numbers = ap (λ (x : ℕ). take x numbers) (sym d) in
+    let here : block ≡ take (length block) (drop (b * 256) numbers) =
+    t.here ∙ ap (λ (x : List ℤ). take (length block) (drop (b * 256) x)) u
+    ∙ ap (take (length block)) (drop-take (b * 256) (n - b * 256) numbers)
+    ∙ take-take (length block) (n - b * 256) (drop (b * 256) numbers) (omega arith) in
+    let c : length (take m held) ≡ m = length-take-le m held r in
+    subst (λ (x : ℕ). P x w) (sym t.after)
+    (fold_block numbers marks (b * 256) (length block) (omega arith) m held
+    (subst (λ (x : List ℤ). Gathered x marks (b * 256) m held) here h) g Q P i o z w
+    (e ∙ ap (folded g z (λ j. get_or (take m held) j (pos 0))) c
+    ∙ fold_ext g z _ _ m (λ j a. get_or-take m held j (pos 0) a))
+    (λ j a. subst Q (get_or-take m held j (pos 0) a) (q j (omega arith)))
+    (subst (λ (x : ℕ). P x z) t.before p))

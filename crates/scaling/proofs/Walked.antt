@@ -1,5 +1,5 @@
 -- The walk for R and E: a present point, an absent one, and the points past the end of the marks.
-use mathlib.Core.Path.{◌≡◌, refl, sym, ap, ap₂, ◌∙◌, subst}
+use mathlib.Core.Path.{◌≡◌, refl, sym, ap, ◌∙◌, subst}
 use mathlib.Core.Bool.{Bool, true, false, cond}
 use mathlib.Core.Logic.{◌⊎◌, inl, inr, ⊎_elim}
 use mathlib.Core.List.{List}
@@ -7,14 +7,11 @@ use Prim.Native.Nat.{ℕ, zero, suc, ◌+◌, ◌-◌, ◌^◌, ◌<◌, ◌≤�
 use native.Mathlib.Nat.{not-suc-le-zero}
 use native.Mathlib.Numerals.{add-one}
 use native.Mathlib.Omega.{arith}
-use lib.Dec.{T, ltb}
+use lib.Dec.{T}
 use lib.IntN.{ℤ, pos}
 use lib.Signed.{lt_z, mag}
 use lib.ListN.{length, get_or, get_or-eq_default}
-use mir.Syntax.{w32}
-use mir.Val.{SFits, to_z, of_z}
-use mir.Facts.{to_z-of_z}
-use borrow.Author.Tests.{eq-eqb, ne_eqb, ltb-true, ltb-false}
+use borrow.Author.Tests.{eq-eqb, ne_eqb}
 use Rattle.bits.proofs.Runs.{lt_or_ge}
 use Rattle.bits.proofs.Below.{upto}
 use Rattle.rules.specs.Bounds.{source_most}
@@ -23,26 +20,6 @@ use Rattle.rules.specs.Packing.{lowest}
 use Rattle.laws.proofs.Whole.{not-below, lt_z_irrefl, lt_z_antisym}
 use Rattle.scaling.specs.Spread.{lesser_of, greater_of, lowest_in, Has, floor, Highest}
 use Rattle.scaling.proofs.Distances.{over-floor}
-
--- the two answers of a choice
-pub picked {ℓ} : {A : Type ℓ} (t : Bool) (x y : A) → t ≡ true → x ≡ cond t x y
-picked t x y h = rw h
-
-pub passed {ℓ} : {A : Type ℓ} (t : Bool) (x y : A) → t ≡ false → y ≡ cond t x y
-passed t x y h = rw h
-
--- a test of two numbers, as code reads them back
-pub ordered : (a b : ℤ) → SFits w32 a → SFits w32 b → (t : Bool) → lt_z (to_z w32 (of_z w32 a)) (to_z w32 (of_z w32 b)) ≡ t
-    → lt_z a b ≡ t
-ordered a b f g t h = sym (ap₂ lt_z (to_z-of_z f) (to_z-of_z g)) ∙ h
-
--- the shorter of two lengths
-pub shorter_is : (a b r : ℕ) → r ≡ cond (ltb a b) a b → ((r ≤ a) × (r ≤ b)) × ((r ≡ a) ⊎ (r ≡ b))
-shorter_is a b r e = go (ltb a b) refl e
-  where
-    go : (t : Bool) → ltb a b ≡ t → r ≡ cond t a b → ((r ≤ a) × (r ≤ b)) × ((r ≡ a) ⊎ (r ≡ b))
-    go true p q = ((omega arith, omega (arith, ltb-true a b p)), inl q)
-    go false p q = ((omega (arith, ltb-false a b p), omega arith), inr q)
 
 -- the least present number
 pub lowest-none : (numbers : List ℤ) (marks : List ℕ) → pos source_most ≡ lowest_in numbers marks 0

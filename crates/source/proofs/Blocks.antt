@@ -4,7 +4,7 @@
 use mathlib.Core.Path.{◌≡◌, refl, sym, ap, ap₂, ◌∙◌, subst}
 use mathlib.Core.Bool.{Bool, true, false, cond, ◌||◌, ◌&&◌}
 use mathlib.Core.List.{List, [], ◌∷◌}
-use Prim.Native.Nat.{ℕ, zero, suc, ◌+◌, ◌-◌, ◌≤◌, ◌<◌}
+use Prim.Native.Nat.{ℕ, zero, suc, ◌+◌, ◌*◌, ◌≤◌, ◌<◌}
 use native.Mathlib.Nat.{add-zero}
 use native.Mathlib.Numerals.{add-one}
 use native.Mathlib.Omega.{arith}
@@ -21,9 +21,10 @@ use Rattle.bits.proofs.Ones.{count-one, count_none, count_ext, count-le, count-s
 use Rattle.bits.proofs.Below.{any_ext}
 use Rattle.rules.specs.Bitmap.{mark_of}
 use Rattle.laws.specs.Marks.{here}
-use Rattle.gathering.specs.Gather.{here_from, gather_into, gathered_of, gather_fits}
+use Rattle.gathering.specs.Gather.{here_from, gather_into, gather_list, gathered_of, gather_fits}
+use Rattle.gathering.proofs.Chunks.{Chunk}
 use Rattle.gathering.proofs.Here.{here-one, here-from-bits, fits_so}
-use Rattle.gathering.proofs.Gathered.{gathered_in, gathered-out, length-gathered-of, gather-front}
+use Rattle.gathering.proofs.Gathered.{gathered_in, gathered-out, length-gathered-of, gather-front, held_into}
 
 or_nothing : (b : Bool) → b || false ≡ b
 or_nothing true = refl
@@ -100,12 +101,12 @@ module _ (block : List ℤ) (marks : List ℕ) (i : ℕ) where
 
   pub gathered-block : (m : ℕ) (first held : List ℤ) → i + c ≤ length marks → c ≤ length first
       → m ≡ cond (fit first) (count (here_from marks i) 0 c) 0
-      → held ≡ cond (fit first) (gather_into (here_from marks i) at c first) first
+      → held ≡ cond (fit first) (gather_list (here_from marks i) block c first) first
       → Gathered block marks i m held
   gathered-block m first held k r em eh =
       let t : fit first ≡ true = fits_so c (length first) i (length marks) r k in
       let n : m ≡ count (here_from marks i) 0 c = em ∙ ap (λ (b : Bool). cond b (count (here_from marks i) 0 c) 0) t in
-      let h : held ≡ gather_into (here_from marks i) at c first = eh ∙ ap (λ (b : Bool). cond b (gather_into (here_from marks i) at c first) first) t in record {
+      let h : held ≡ gather_into (here_from marks i) at c first = eh ∙ held_into (here_from marks i) block (pos 0) (fit first) first ∙ ap (λ (b : Bool). cond b (gather_into (here_from marks i) at c first) first) t in record {
         many = n;
         front = ap₂ (λ (x : ℕ) (xs : List ℤ). take x xs) n h
             ∙ gather-front (here_from marks i) (here-from-bits marks i) at first c r;
@@ -128,19 +129,27 @@ module _ (block : List ℤ) (marks : List ℕ) (i : ℕ) where
         ∙ any_ext _ _ c
         (λ j l. ap (λ (t : Bool). t && g (count (here_from marks i) 0 j) (at j)) (here-one marks (i + j)))
 
+-- a chunk of all numbers, gathered
+pub gathered-chunk : (xs block : List ℤ) (b before next : ℕ) → Chunk xs block b before next
+    → (marks : List ℕ) → length xs ≤ length marks → (m : ℕ) (first held : List ℤ) → length first ≡ 256
+    → m ≡ cond (gather_fits (length block) (length first) (b * 256) (length marks)) (count (here_from marks (b * 256)) 0 (length block)) 0
+    → held ≡ cond (gather_fits (length block) (length first) (b * 256) (length marks))
+    (gather_list (here_from marks (b * 256)) block (length block) first) first
+    → Gathered block marks (b * 256) m held × (m ≤ 256)
+gathered-chunk xs block b before next t marks e m first held r em eh =
+    let g = gathered-block block marks (b * 256) m first held (omega (arith, t.inside)) (omega (arith, t.most)) em eh in
+    (g, omega (arith, no_more block marks (b * 256) m held g, t.most))
+
 -- a block as a part of all numbers
 module _ (numbers : List ℤ) (i c : ℕ) (l : i + c ≤ length numbers) where
   abbrev pub part : List ℤ
-  part = take (i + c - i) (drop i numbers)
+  part = take c (drop i numbers)
 
   pub part-long : length part ≡ c
-  part-long = length-take-le (i + c - i) (drop i numbers) (omega (arith, length-drop i numbers)) ∙ after i c
-    where
-      after : (a b : ℕ) → a + b - a ≡ b
-      after a b = omega arith
+  part-long = length-take-le c (drop i numbers) (omega (arith, length-drop i numbers))
 
   pub part_at : (j : ℕ) → j < c → get_or part j (pos 0) ≡ get_or numbers (i + j) (pos 0)
-  part_at j k = get_or-take (i + c - i) (drop i numbers) j (pos 0) (omega arith) ∙ get_or-drop i numbers j (pos 0)
+  part_at j k = get_or-take c (drop i numbers) j (pos 0) k ∙ get_or-drop i numbers j (pos 0)
 
   pub any_part : (f : ℕ → ℤ → Bool)
       → any_below (λ j. f j (get_or part j (pos 0))) (length part) ≡ any_below (λ j. f j (get_or numbers (i + j) (pos 0))) c

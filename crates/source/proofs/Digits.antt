@@ -147,9 +147,6 @@ module _ (z : ℤ) (f : SFits w32 z) where
           ∙ minus z (plain (beyond source_most) false h) (plain (λ (x : ℤ). lt_z x (pos 0)) true l)
 
     module _ (l : lt_z (pos 0) v ≡ true) where
-      pub kept-size : (v ≡ pos (nat_abs z)) × ((1 ≤ nat_abs z) × (nat_abs z ≤ source_most))
-      kept-size = let k = kept z (plain (lt_z (pos 0)) true l) in (to_z-of_z f ∙ k.0, (k.1, most))
-
       pub plus-is : (r : ℕ) → r ≡ spelt (nat_abs v) → r ≡ spelling_from z
       plus-is r e = e ∙ ap (λ (x : ℤ). spelt (nat_abs x)) (to_z-of_z f)
           ∙ plus z (plain (beyond source_most) false h) (plain (lt_z (pos 0)) true l)

@@ -1,14 +1,15 @@
 -- The tests of refusal 18, as code makes them: those of the lengths first, then of all marks, and of the numbers at
 -- present points.
-use mathlib.Core.Path.{◌≡◌, refl, sym, ap, ap₂, ◌∙◌}
+use mathlib.Core.Path.{◌≡◌, refl, sym, ap, ap₂, ◌∙◌, subst}
 use mathlib.Core.Bool.{Bool, true, false, not, ◌||◌, ◌&&◌}
 use mathlib.Core.List.{List}
-use Prim.Native.Nat.{ℕ, ◌+◌, ◌^◌, ◌<◌, ◌≤◌}
+use Prim.Native.Nat.{ℕ, min, ◌+◌, ◌*◌, ◌^◌, ◌<◌, ◌≤◌}
 use borrow.Author.Tests.{eqb-true, eq-eqb, ne_eqb, not-false, not-true}
 use lib.Dec.{ltb, eqb}
 use lib.IntN.{ℤ, pos}
 use lib.Signed.{mag}
-use lib.ListN.{length, get_or}
+use lib.ListN.{length, take, get_or}
+use lib.Seq.{length-take-le, get_or-take}
 use mir.Syntax.{w32}
 use mir.Val.{to_z, of_z}
 use mir.Facts.{to_z-of_z}
@@ -20,6 +21,7 @@ use Rattle.rules.specs.Bounds.{points_most, source_most}
 use Rattle.rules.specs.Numbers.{not_within, beyond}
 use Rattle.rules.specs.Table.{any_of, or_all}
 use Rattle.rules.specs.Checking.{source_faults, any_present}
+use Rattle.gathering.proofs.Chunks.{Chunk}
 use Rattle.laws.proofs.Rows.{inside}
 use Rattle.marks.specs.Marks.{the_all_present}
 use Rattle.source.specs.Present.{far}
@@ -51,6 +53,23 @@ module _ (numbers : List ℤ) (marks : List ℕ) where
       (ey ∙ any_block _ marks i m held h (λ _. beyond source_most)
       ∙ any_part numbers i c l (λ j v. eqb (mark_of marks (i + j)) 1 && beyond source_most v))
       ∙ any_more (far numbers marks) i c
+
+  front : (held : List ℤ) (m : ℕ) → m ≤ length held
+      → any_below (λ k. beyond source_most (get_or (take m held) k (pos 0))) (length (take m held))
+      ≡ any_below (λ k. beyond source_most (get_or held k (pos 0))) m
+  front held m l =
+      ap (any_below (λ k. beyond source_most (get_or (take m held) k (pos 0)))) (length-take-le m held l)
+      ∙ any_ext _ _ m (λ k h. ap (beyond source_most) (get_or-take m held k (pos 0) h))
+
+  pub far-chunk : (block : List ℤ) (b count next : ℕ) → Chunk numbers block b count next → (m : ℕ) (held : List ℤ)
+      → Gathered block marks (b * 256) m held
+      → (x y : Bool) → x ≡ any_below (far numbers marks) (min (count * 256) (length numbers))
+      → m ≤ length held → y ≡ any_below (λ k. beyond source_most (get_or (take m held) k (pos 0))) (length (take m held))
+      → x || y ≡ any_below (far numbers marks) (min (next * 256) (length numbers))
+  far-chunk block b count next h m held g x y ex l ey =
+      far-more (b * 256) (length block) h.inside m held (subst (λ (z : List ℤ). Gathered z marks (b * 256) m held) h.here g) x y
+      (ex ∙ ap (any_below (far numbers marks)) h.before) (ey ∙ front held m l)
+      ∙ ap (any_below (far numbers marks)) (sym h.after)
 
   abbrev pub sizes : Bool
   sizes = not (eqb (marks_long (length numbers)) (length marks)) || not_within 1 points_most (length numbers)

@@ -13,7 +13,7 @@ ghost use Rattle.source.specs.Present.{far};
 
 mod whole; // whole.rt: R read as a whole number, and a whole number spelt as R
 
-use gathering::gather_numbers;
+use gathering::gather;
 use marks::{all_present, long, odd};
 use rules::bounds::{POINTS_MOST, SOURCE_MOST};
 pub use whole::{spelling, whole_bad, whole_of};
@@ -28,26 +28,14 @@ pub fn large(v: i32) -> bool
 // How many points are judged at once, at most.
 const BLOCK: usize = 256;
 
-// How many are, of those left.
-fn next_few(left: usize) -> usize
-    ensures { (result ≤ left) × ((result ≤ 256) × (0 < left → 0 < result)) }
-{
-    if left < BLOCK {
-        return left;
-    }
-    BLOCK
-}
-
-// Whether one of the first c numbers is outside its bound.
-fn any_large(numbers: &[i32], c: usize) -> bool
-    requires { c ≤ length numbers.now }
-    ensures { result ≡ any_below (λ i. beyond source_most (get_or numbers.now i (pos 0))) c }
+// Whether one of some numbers is outside its bound.
+fn any_large(numbers: &[i32]) -> bool
+    ensures { result ≡
+        any_below (λ i. beyond source_most (get_or numbers.now i (pos 0))) (length numbers.now) }
 {
     let mut far = false;
-    let mut i: usize = 0;
-    while i < c {
-        far = far | large(numbers[i]);
-        i += 1;
+    for v in numbers {
+        far = far | large(*v);
     }
     far
 }
@@ -59,12 +47,9 @@ fn present_large(numbers: &[i32], marks: &[u8]) -> bool
 {
     let mut held = [0i32; BLOCK];
     let mut far = false;
-    let mut i: usize = 0;
-    while i < numbers.len() {
-        let c = next_few(numbers.len() - i);
-        let m = gather_numbers(&numbers[i..i + c], marks, i, &mut held);
-        far = far | any_large(&held, m);
-        i += c;
+    for (b, block) in numbers.chunks(BLOCK).enumerate() {
+        let m = gather(block, marks, b * BLOCK, &mut held);
+        far = far | any_large(&held[..m]);
     }
     far
 }
@@ -83,7 +68,7 @@ pub fn source_bad(numbers: &[i32], marks: &[u8]) -> bool
         return true;
     }
     if all_present(marks, n) {
-        return any_large(numbers, many);
+        return any_large(numbers);
     }
     odd(marks, n) | present_large(numbers, marks)
 }

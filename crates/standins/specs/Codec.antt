@@ -2,7 +2,8 @@
 -- the codec's answers in the place of ours, and says what they are to be by what the format means.
 use Rattle.std.specs.Prelude.{ℕ, ◌^◌, ◌<◌, ◌≤◌, ◌≡◌, ◌↔◌, false, List, T, length, drop}
 use Rattle.bits.specs.Bits.{count}
-use Rattle.rules.specs.declared.{Refusal.Refusal, Header.Header, Form.Form, Written.Written}
+use Rattle.rules.specs.declared.{Refusal.Refusal, Form.Form}
+use Rattle.rules.specs.Answers.{Header, Written}
 use Rattle.rules.specs.Table.{refusal, accepted, first}
 use Rattle.rules.specs.Bitmap.{Lent, marks_long}
 use Rattle.rules.specs.Reading.{points_in, present_in, refused_by, read_table}

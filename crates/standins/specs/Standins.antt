@@ -2,7 +2,8 @@
 -- other answers in one place, and the demand that rejects it.
 use Rattle.std.specs.Prelude.{ℕ, ◌/◌, ◌^◌, cond, List, [], ◌∷◌, eqb, pos, negsuc, length, get_or}
 use Rattle.bits.specs.Tables.{tab}
-use Rattle.rules.specs.declared.{Refusal.Refusal, Header.Header, Form.Form, Written.Written}
+use Rattle.rules.specs.declared.{Refusal.Refusal, Form.Form}
+use Rattle.rules.specs.Answers.{Header, Written}
 use Rattle.rules.specs.declared.{Geometry.TheVariants.LatLon, Bitmap.TheVariants.Carried}
 use Rattle.rules.specs.Numbers.{plain}
 use Rattle.rules.specs.Table.{refusal, filled}

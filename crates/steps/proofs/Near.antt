@@ -1,48 +1,19 @@
--- Two numbers of 32 bits are less than 2^32 apart, and X is no more than that.
+-- X of a number of 32 bits, and X stored one after another.
 use mathlib.Core.Path.{◌≡◌, refl, sym, ap, ap₂, ◌∙◌}
-use mathlib.Core.Bool.{Bool, true, false, cond}
+use mathlib.Core.Bool.{Bool, cond}
 use mathlib.Core.List.{List, ◌++◌}
-use Prim.Native.Nat.{ℕ, zero, suc, ◌+◌, ◌-◌, ◌*◌, ◌^◌, ◌≤◌, ◌<◌}
+use Prim.Native.Nat.{ℕ, zero, suc, ◌+◌, ◌*◌, ◌^◌, ◌≤◌, ◌<◌}
 use native.Mathlib.Nat.{div-eq_of_lt, lt_of_lt_of_le, pow-suc}
 use native.Mathlib.Omega.{arith}
-use borrow.Author.Tests.{ltb-true, ltb-false, le-leb, lt-leb}
-use lib.Dec.{ltb}
+use borrow.Author.Tests.{le-leb, lt-leb}
 use lib.Pow.{pow_mono}
-use lib.IntN.{ℤ, pos, negsuc, nat_abs, sub_ℕ, ◌-ℤ◌}
-use lib.Signed.{mag}
-use lib.ListN.{length, get_or, set, take, drop, length-append, length-drop}
+use lib.IntN.{ℤ, pos, nat_abs, ◌-ℤ◌}
+use lib.ListN.{length, get_or, set, take, drop, length-drop}
 use lib.Seq.{take_at, get_or-take, get_or-drop, length-take-le}
-use mir.Syntax.{w32}
-use mir.Val.{SFits, to_z, of_z}
-use mir.Facts.{to_z-of_z}
 use Rattle.bits.specs.Tables.{tab}
 use Rattle.bits.proofs.Fill.{length-tab, tab_ext, fill}
 use Rattle.rules.specs.Packing.{stepped}
 use Rattle.steps.specs.Steps.{step_of, steps_to, steps_into}
-
-sub-near : (a b h : ℕ) → a ≤ b + h → b ≤ a + h → nat_abs (sub_ℕ a b) ≤ h
-sub-near a b h p q = go (ltb a b) refl
-  where
-    go : (t : Bool) → ltb a b ≡ t → nat_abs (cond t (negsuc (b - suc a)) (pos (a - b))) ≤ h
-    go true e = omega (arith, ltb-true a b e)
-    go false e = omega (arith, ltb-false a b e)
-
-near : (a b : ℤ) → nat_abs (a -ℤ b) ≤ mag a + mag b + 1
-near (pos a) (pos zero) = omega arith
-near (pos a) (pos (suc b)) = sub-near a (suc b) _ (omega arith) (omega arith)
-near (pos a) (negsuc b) = omega arith
-near (negsuc a) (pos zero) = sub-near 0 (suc a) _ (omega arith) (omega arith)
-near (negsuc a) (pos (suc b)) = omega arith
-near (negsuc a) (negsuc b) = sub-near (suc b) (suc a) _ (omega arith) (omega arith)
-
--- as the code hands them on
-module _ (v r : ℤ) (f : SFits w32 v) (g : SFits w32 r) (a : ℕ)
-    (e : a ≡ nat_abs (to_z w32 (of_z w32 v) -ℤ to_z w32 (of_z w32 r))) where
-  pub apart-is : a ≡ nat_abs (v -ℤ r)
-  apart-is = e ∙ ap₂ (λ (x y : ℤ). nat_abs (x -ℤ y)) (to_z-of_z f) (to_z-of_z g)
-
-  pub apart-few : a < 2 ^ 32
-  apart-few = omega (arith, apart-is, near v r, f.sfits, g.sfits)
 
 pub far-on : (e a : ℕ) → 32 < e → a < 2 ^ 32 → 0 ≡ stepped e a
 unfolding stepped
@@ -56,13 +27,6 @@ module _ (numbers : List ℤ) (r : ℤ) (e : ℕ) (first : List ℕ) where
   pub none : first ≡ steps_to numbers r e 0 first
   unfolding tab
   none = refl
-
-  pub stored-long : (i : ℕ) (xs : List ℕ) → i ≤ length first → xs ≡ steps_to numbers r e i first
-      → length xs ≡ length first
-  stored-long i xs h k =
-      let t : i + (length first - i) ≡ length first = omega arith in
-      ap length k ∙ length-append (tab (step_of numbers r e) i) (drop i first)
-      ∙ ap₂ (λ (x y : ℕ). x + y) (length-tab (step_of numbers r e) i) (length-drop i first) ∙ t
 
   -- a turn stores one more
   pub stored_more : (i : ℕ) (xs : List ℕ) → i < length first → xs ≡ steps_to numbers r e i first

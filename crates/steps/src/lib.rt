@@ -35,10 +35,8 @@ fn scale_fitting(numbers: &[i32], r: i32, e: u8, xs: &mut [u32])
     ensures { xs.new ≡
         steps_to numbers.now r e (length numbers.now) xs.old }
 {
-    let mut i: usize = 0;
-    while i < numbers.len() {
+    for i in 0..numbers.len() {
         xs[i] = step(e, distance(numbers[i], r));
-        i += 1;
     }
 }
 

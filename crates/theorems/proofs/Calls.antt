@@ -1,5 +1,6 @@
 -- Demand 2 over two calls: what a caller makes of what reading handed out is the parts of the message, field by field
 -- from `Told`; so read and then write, and write and then read, say what the round trips say of these parts.
+use Rattle.std.specs.Prelude.{None, Some}
 use Prim.Native.Nat.{ℕ, ◌≤◌}
 use mathlib.Core.Path.{◌≡◌, refl, sym, ◌∙◌, ap, subst}
 use mathlib.Core.Bool.{Bool, true, false, cond}
@@ -8,7 +9,8 @@ use native.Mathlib.Omega.{arith}
 use borrow.Author.Tests.{ne_eqb}
 use lib.Dec.{T, eqb}
 use lib.ListN.{length, take}
-use Rattle.rules.specs.declared.{Header.Header, Grid.Grid, Found.TheVariants.Nothing, Found.TheVariants.Given}
+use Rattle.rules.specs.declared.{Grid.Grid}
+use Rattle.rules.specs.Answers.{Header}
 use Rattle.rules.specs.Table.{accepted}
 use Rattle.rules.specs.Numbers.{number}
 use Rattle.rules.specs.Places.{octets_of, after, pds_start, the_has_grid, places_of, the_section_at}
@@ -28,10 +30,10 @@ use Rattle.theorems.proofs.WriteBack.{write-after-read}
 
 -- a grid section has octets exactly where there is one, so that the grid it gives is made again
 grid-made : (s : List ℕ) (b : Bool) (n : ℕ) (g : Grid) → (T b → 32 ≤ cond b n 0)
-    → cond (eqb (cond b n 0) 0) Nothing (Given (grid_or_zeros (the_grid_from (cond b (Given g) Nothing) s pds_start)))
-    ≡ cond b (Given g) Nothing
+    → cond (eqb (cond b n 0) 0) None (Some (grid_or_zeros (the_grid_from (cond b (Some g) None) s pds_start)))
+    ≡ cond b (Some g) None
 unfolding the_grid_from
-grid-made s true n g h = let l : 32 ≤ n = h tt in ap (λ (b : Bool). cond b Nothing (Given g)) (ne_eqb n 0 (λ e. omega (arith, l, e)))
+grid-made s true n g h = let l : 32 ≤ n = h tt in ap (λ (b : Bool). cond b None (Some g)) (ne_eqb n 0 (λ e. omega (arith, l, e)))
 grid-made s false n g h = refl
 
 module _ (s : List ℕ) (lent : Lent) (values marks : List ℕ) (t : Taken s lent) (rv : points_in s ≤ length values)
@@ -39,11 +41,11 @@ module _ (s : List ℕ) (lent : Lent) (values marks : List ℕ) (t : Taken s len
   told : Tells s lent values marks (parts_in s lent)
   told = read-tells s lent values marks t rv rm
 
-  grid-is : cond (eqb (read_of s lent values marks).places.gds.len 0) Nothing
-      (Given (read_of s lent values marks).grid) ≡ grid_in s
+  grid-is : cond (eqb (read_of s lent values marks).places.gds.len 0) None
+      (Some (read_of s lent values marks).grid) ≡ grid_in s
   unfolding found_in found_by parsed_of grid_in grid_of places_of the_section_at
   grid-is =
-      ap (λ (h : Header). cond (eqb h.places.gds.len 0) Nothing (Given h.grid))
+      ap (λ (h : Header). cond (eqb h.places.gds.len 0) None (Some h.grid))
       (header s lent values marks t rv rm)
       ∙ grid-made s (the_has_grid s pds_start) (number s (after (places_of s).pds) 1 3) (the_grid_at s (places_of s).gds)
       (reads-inside s lent t).gds

@@ -1,5 +1,6 @@
 -- R-6: an index filled from a message is not refused, and its entry plus the ones before a place is the count of ones
 -- before it; from any index, what is left by passing 25. By the definitions and the laws of counts that join.
+use Rattle.std.specs.Prelude.{Err, None, Ok, Option, Result, Some}
 use Prim.Native.Nat.{ℕ, ◌+◌, ◌-◌, ◌*◌, ◌%◌, ◌<◌, ◌≤◌}
 use mathlib.Core.Path.{◌≡◌, refl, sym, ap, ap₂, ◌∙◌}
 use mathlib.Core.Bool.{Bool, true, false, not, cond}
@@ -13,10 +14,7 @@ use Rattle.bits.specs.Bits.{count}
 use Rattle.bits.specs.Tables.{tab}
 use Rattle.bits.proofs.Fill.{length-tab}
 use Rattle.bits.proofs.Ones.{count-split, count_mono}
-use Rattle.rules.specs.declared.{Refusal.Refusal, Spot.Spot, GridPoint.GridPoint, Pointed.Pointed}
-use Rattle.rules.specs.declared.{Pointed.TheVariants.At, Pointed.TheVariants.Off as Nowhere, UnderCursor.UnderCursor}
-use Rattle.rules.specs.declared.{UnderCursor.TheVariants.Refused, UnderCursor.TheVariants.Absent}
-use Rattle.rules.specs.declared.{UnderCursor.TheVariants.Value}
+use Rattle.rules.specs.declared.{Refusal.Refusal, Spot.Spot, GridPoint.GridPoint}
 use Rattle.rules.specs.Table.{Row, row, refusal, accepted, answered, any_of, first_or, first, filled}
 use Rattle.rules.specs.Chart.{the_point_on, pointed}
 use Rattle.rules.specs.Bitmap.{Lent, mark_of, value_of, bitmap_octets}
@@ -56,17 +54,17 @@ module _ (s : List ℕ) (lent : Lent) (t : Taken s lent) (index : List ℕ) (c :
   unfolding cursor_refusal cursor_table first first_or
   by_rows = first-after (message_table s lent) (row 24 off ∷ row 25 bad ∷ []) (rows s lent t)
 
-  abbrev answer : Refusal → UnderCursor
-  answer r = answered r (under_at s lent index (the_point_on (shape_in s) c)) (Refused r)
+  abbrev answer : Refusal → Result (Option ℕ) Refusal
+  answer r = answered r (under_at s lent index (the_point_on (shape_in s) c)) (Err r)
 
   by_answer : (r : Refusal) → cursor_refusal s lent index c ≡ r → cursor_of s lent index c ≡ answer r
   unfolding cursor_of
   by_answer r e = ap answer e
 
-  outside : pointed (shape_in s) c ≡ Nowhere → cursor_of s lent index c ≡ Refused (refusal 24)
+  outside : pointed (shape_in s) c ≡ None → cursor_of s lent index c ≡ Err (refusal 24)
   outside e = by_answer (refusal 24) (by_rows ∙ rw e)
 
-  module _ (k : GridPoint) (e : pointed (shape_in s) c ≡ At k) where
+  module _ (k : GridPoint) (e : pointed (shape_in s) c ≡ Some k) where
     abbrev here : Found (shape_in s) c k.0
     here = found (shape_in s) c k e
 
@@ -182,25 +180,25 @@ module _ (s : List ℕ) (lent : Lent) (index values marks : List ℕ) (t : T (ac
     (r : T (accepted (read_refusal s lent values marks))) where
   given : (i : ℕ) → i < points_in s → (b : Bool) → eqb (present_in s lent i) 1 ≡ b
       → under_at s lent (the_index_after s lent index) i
-      ≡ cond (eqb (mark_of (the_marks_after s lent values marks) i) 1) (Value (value_of (the_values_after s lent values marks) i))
-      Absent
+      ≡ cond (eqb (mark_of (the_marks_after s lent values marks) i) 1) (Ok (Some (value_of (the_values_after s lent values marks) i)))
+      (Ok None)
   unfolding under_at
   given i l true e =
       let v = value-at-point s lent values marks r i l in
       let one = eqb-true (present_in s lent i) 1 e in
       rw (v.mark, e)
-      (ap Value (ap (λ (k : ℕ). get_or (data_in s lent) k 0) (number_is s lent index t i l) ∙ sym (v.here one).2))
+      (ap (λ (x : ℕ). Ok (Some x)) (ap (λ (k : ℕ). get_or (data_in s lent) k 0) (number_is s lent index t i l) ∙ sym (v.here one).2))
   given i l false e = let v = value-at-point s lent values marks r i l in rw (v.mark, e) refl
 
-  at : (c : Spot) (q : Pointed) → pointed (shape_in s) c ≡ q
+  at : (c : Spot) (q : Option GridPoint) → pointed (shape_in s) c ≡ q
       → cursor_of s lent (the_index_after s lent index) c
       ≡ read_at (the_values_after s lent values marks) (the_marks_after s lent values marks) q
-  at c (At k) e =
+  at c (Some k) e =
       let took = index-taken s lent index t in
       let l = below s lent took (the_index_after s lent index) c k e in
       inside s lent took (the_index_after s lent index) c k e (fits s lent index t k.0 l)
       ∙ given k.0 l (eqb (present_in s lent k.0) 1) refl
-  at c Nowhere e = outside s lent (index-taken s lent index t) (the_index_after s lent index) c e
+  at c None e = outside s lent (index-taken s lent index t) (the_index_after s lent index) c e
 
 pub cursor-reads : CursorReads
 cursor-reads s lent index values marks t r c = at s lent index values marks t r c (pointed (shape_in s) c) refl
@@ -225,13 +223,13 @@ module _ (s : List ℕ) (lent : Lent) (index : List ℕ) (c : Spot) (t : T (acce
   abbrev i : ℕ
   i = the_point_on (shape_in s) c
 
-  place-by : (q : Pointed) → pointed (shape_in s) c ≡ q → off_chart q ≡ false
-      → pointed (shape_in s) c ≡ At (record { 0 = i })
-  place-by (At k) e h =
-      e ∙ ap (λ (x : ℕ). At (record { 0 = x })) (sym (found (shape_in s) c k e).is)
-  place-by Nowhere e h = clash true refl h
+  place-by : (q : Option GridPoint) → pointed (shape_in s) c ≡ q → off_chart q ≡ false
+      → pointed (shape_in s) c ≡ Some (record { 0 = i })
+  place-by (Some k) e h =
+      e ∙ ap (λ (x : ℕ). Some (record { 0 = x })) (sym (found (shape_in s) c k e).is)
+  place-by None e h = clash true refl h
 
-  place : pointed (shape_in s) c ≡ At (record { 0 = i })
+  place : pointed (shape_in s) c ≡ Some (record { 0 = i })
   place = place-by (pointed (shape_in s) c) refl passes.1.0
 
   point-below : i < points_in s
@@ -248,16 +246,16 @@ module _ (s : List ℕ) (lent : Lent) (index : List ℕ) (c : Spot) (t : T (acce
   number_in one =
       number-below (present_in s lent) index (points_in s) (present_count s lent) i point-below passes.1.1.0 one
 
-  value-of : present_in s lent i ≡ 1 → cursor_of s lent index c ≡ Value (get_or (data_in s lent) k 0)
+  value-of : present_in s lent i ≡ 1 → cursor_of s lent index c ≡ (Ok (Some (get_or (data_in s lent) k 0)))
   unfolding under_at cursor_number
   value-of one =
-      says ∙ ap (λ (b : Bool). cond b (Value (get_or (data_in s lent) k 0)) Absent) (eq-eqb (present_in s lent i) 1 one)
+      says ∙ ap (λ (b : Bool). cond b (Ok (Some (get_or (data_in s lent) k 0))) (Ok None)) (eq-eqb (present_in s lent i) 1 one)
 
-  absent-of : present_in s lent i ≡ 0 → cursor_of s lent index c ≡ Absent
+  absent-of : present_in s lent i ≡ 0 → cursor_of s lent index c ≡ (Ok None)
   unfolding under_at
   absent-of none =
       says
-      ∙ ap (λ (b : Bool). cond b (Value (get_or (data_in s lent) (cursor_number (present_in s lent) index i) 0)) Absent)
+      ∙ ap (λ (b : Bool). cond b (Ok (Some (get_or (data_in s lent) (cursor_number (present_in s lent) index i) 0))) (Ok None))
       (ne_eqb (present_in s lent i) 1 (λ e. omega arith))
 
   bit-of : present_in s lent i < 2
@@ -310,7 +308,7 @@ module _ (s : List ℕ) (lent : Lent) (index other : List ℕ) (i : ℕ) where
     under_same =
         ap
         (λ (a : ℕ). cond (eqb (present_in s lent i) 1)
-        (Value (get_or (data_in s lent) (a + ones_up_to (present_in s lent) i) 0)) Absent) e
+        (Ok (Some (get_or (data_in s lent) (a + ones_up_to (present_in s lent) i) 0))) (Ok None)) e
 
 pub cursor_asks_group : CursorAsksGroup
 unfolding cursor_of cursor_refusal cursor_table
@@ -319,4 +317,4 @@ cursor_asks_group s lent index other c l k e f =
     let same : cursor_refusal s lent index c ≡ cursor_refusal s lent other c =
     ap (λ (b : Bool). first (message_table s lent ++ (row 24 (off_chart (pointed (shape_in s) c)) ∷ row 25 b ∷ [])))
     (bad-same s lent index other i l k e f) in
-    ap₂ (λ (r : Refusal) (u : UnderCursor). answered r u (Refused r)) same (under_same s lent index other i l k e f)
+    ap₂ (λ (r : Refusal) (u : Result (Option ℕ) Refusal). answered r u (Err r)) same (under_same s lent index other i l k e f)

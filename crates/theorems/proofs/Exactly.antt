@@ -1,5 +1,6 @@
 -- Demand 2: reading and then writing gives the same octets only of a canonical message, since whatever is written is
 -- canonical: each section is laid without a stain.
+use Rattle.std.specs.Prelude.{None, Some}
 use Prim.Native.Nat.{ℕ, zero, suc, ◌+◌, ◌-◌, ◌*◌, ◌^◌, ◌<◌}
 use mathlib.Core.Bool.{Bool, true, false, cond}
 use mathlib.Core.Path.{◌≡◌, refl, sym, subst, ◌∙◌, ap}
@@ -11,7 +12,7 @@ use borrow.Author.Tests.{eqb-true}
 use lib.ListN.{length, get_or}
 use Rattle.bits.specs.Bits.{bits_in, run}
 use Rattle.bits.proofs.Runs.{bits_in-bits, run-lt}
-use Rattle.rules.specs.declared.{Start.Start, Part.Part, Places.Places, Found.TheVariants.Nothing, Found.TheVariants.Given}
+use Rattle.rules.specs.declared.{Start.Start, Part.Part, Places.Places}
 use Rattle.rules.specs.declared.{Bitmap.TheVariants.Carried, Bitmap.TheVariants.Stored}
 use Rattle.rules.specs.Bounds.{octant_rows}
 use Rattle.rules.specs.Counts.{counts_of}
@@ -129,7 +130,7 @@ read_fits lambert x h = h
 read_fits gaussian x h = h
 read_fits polar x h = h
 
-grid-fits : (b : Bool) (s : List ℕ) (p : Part) → Below 256 s → FoundFits (cond b (Given (the_grid_at s p)) Nothing)
+grid-fits : (b : Bool) (s : List ℕ) (p : Part) → Below 256 s → FoundFits (cond b (Some (the_grid_at s p)) None)
 unfolding the_grid_at
 grid-fits false s p h = tt
 grid-fits true s p h =

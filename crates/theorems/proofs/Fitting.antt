@@ -1,5 +1,6 @@
 -- What is written fits the octets that the faces name: a rectangle has a short GDS, of 42 octets at most, and at most the
 -- most points, an octant a longer one and far fewer points.
+use Rattle.std.specs.Prelude.{None, Option, Some}
 use Prim.Native.Nat.{ℕ, ◌+◌, ◌*◌, ◌^◌, ◌≤◌, ◌<◌}
 use mathlib.Core.Path.{◌≡◌, refl}
 use mathlib.Core.Logic.{◌⊎◌, inl, inr, ⊎_elim}
@@ -13,7 +14,7 @@ use Rattle.bits.proofs.Ones.{count-le}
 use Rattle.rules.specs.declared.{Geometry.Geometry, Geometry.TheVariants.LatLon, Geometry.TheVariants.Thinned}
 use Rattle.rules.specs.declared.{Geometry.TheVariants.Mercator, Geometry.TheVariants.Lambert}
 use Rattle.rules.specs.declared.{Geometry.TheVariants.Gaussian, Geometry.TheVariants.Polar}
-use Rattle.rules.specs.declared.{Grid.Grid, Found.Found, Found.TheVariants.Nothing, Found.TheVariants.Given}
+use Rattle.rules.specs.declared.{Grid.Grid}
 use Rattle.rules.specs.Bounds.{pds_most, long_length, thinned_length, octant_points, bms_head, bds_head, points_most, the_bits_most}
 use Rattle.rules.specs.Numbers.{even_from}
 use Rattle.rules.specs.Table.{accepted}
@@ -45,10 +46,10 @@ kind-few g (Lambert x) = inl (omega arith)
 kind-few g (Gaussian x) = inl (omega arith)
 kind-few g (Polar x) = inl (omega arith)
 
-found-few : (f : Found) (p : List ℕ) → Few (length (gds_for f)) (points_of (grid_or_zeros (the_grid_from f p 0)))
+found-few : (f : Option Grid) (p : List ℕ) → Few (length (gds_for f)) (points_of (grid_or_zeros (the_grid_from f p 0)))
 unfolding the_grid_from shape_of
-found-few Nothing p = inl (omega arith)
-found-few (Given g) p =
+found-few None p = inl (omega arith)
+found-few (Some g) p =
     ⊎_elim (λ l. inl (omega (arith, l, gds-length g))) (λ l. inr (omega (arith, l.0, gds-length g), l.1))
     (kind-few g g.geometry)
 

@@ -18,8 +18,9 @@ use Rattle.bits.proofs.Fill.{length-tab, get_or-tab}
 use Rattle.bits.proofs.Below.{none_below, no-below}
 use Rattle.bits.proofs.Tests.{both, or_false, or_none}
 use Rattle.rules.specs.declared.{Refusal.Refusal, Bitmap.Bitmap, Bitmap.TheVariants.Without}
+use Rattle.rules.specs.Answers.{Written}
 use Rattle.rules.specs.declared.{Bitmap.TheVariants.Carried, Bitmap.TheVariants.Stored, Form.Form, Scale.Scale}
-use Rattle.rules.specs.declared.{Packing.Packing, Written.Written}
+use Rattle.rules.specs.declared.{Packing.Packing}
 use Rattle.rules.specs.Bounds.{exponent_most, step_most}
 use Rattle.rules.specs.Numbers.{field, laid, joined, decimal_at, beyond}
 use Rattle.rules.specs.Table.{refusal, first_or, first, any_of}

@@ -1,5 +1,6 @@
 -- The grid section, there or not: laid it reads back without a stain, and laid from what was read without a stain it is
 -- the section read; by the table of its kind. The kinds enter by computed cases alone.
+use Rattle.std.specs.Prelude.{None, Option, Some}
 use Prim.Native.Nat.{ℕ, zero, suc, ◌+◌, ◌%◌, ◌≤◌}
 use mathlib.Core.Bool.{Bool, true, false, not, ◌&&◌, cond}
 use mathlib.Core.Path.{◌≡◌, refl, sym, subst, ap, ◌∙◌}
@@ -14,8 +15,7 @@ use Rattle.rules.specs.declared.{Part.Part, Start.Start, Start.TheVariants.Equat
 use Rattle.rules.specs.declared.{Start.TheVariants.Neither, Geometry.Geometry}
 use Rattle.rules.specs.declared.{Geometry.TheVariants.LatLon, Geometry.TheVariants.Thinned}
 use Rattle.rules.specs.declared.{Geometry.TheVariants.Mercator, Geometry.TheVariants.Lambert}
-use Rattle.rules.specs.declared.{Geometry.TheVariants.Gaussian, Geometry.TheVariants.Polar, Grid.Grid, Found.Found}
-use Rattle.rules.specs.declared.{Found.TheVariants.Nothing, Found.TheVariants.Given}
+use Rattle.rules.specs.declared.{Geometry.TheVariants.Gaussian, Geometry.TheVariants.Polar, Grid.Grid}
 use Rattle.rules.specs.Bounds.{gds_least, thinned_length, octant_rows}
 use Rattle.rules.specs.Counts.{the_from_equator, counts_of}
 use Rattle.rules.specs.Numbers.{Field, laid, octet}
@@ -190,45 +190,45 @@ clean-away [] = tt
 clean-away (t ∷ tests) = (refl, clean-away tests)
 
 -- a grid, or none
-abbrev pub FoundOk : Found → Type 0
-FoundOk Nothing = Unit {0}
-FoundOk (Given g) = GridOk g
+abbrev pub FoundOk : Option Grid → Type 0
+FoundOk None = Unit {0}
+FoundOk (Some g) = GridOk g
 
-pub found_ok : (f : Found) (p : List ℕ) → FoundFits f → any_of (grid_faults (grid_or_zeros (the_grid_from f p 0))) ≡ false
+pub found_ok : (f : Option Grid) (p : List ℕ) → FoundFits f → any_of (grid_faults (grid_or_zeros (the_grid_from f p 0))) ≡ false
     → FoundOk f
 unfolding the_grid_from
-found_ok Nothing p h e = tt
-found_ok (Given g) p h e = grid_ok g h e
+found_ok None p h e = tt
+found_ok (Some g) p h e = grid_ok g h e
 
-pub found_sec : (f : Found) → FoundOk f → Sec (the_grid_given f) gds_least (gds_for f)
-found_sec Nothing o = empty_sec gds_least
-found_sec (Given g) o = gds_sec g o
+pub found_sec : (f : Option Grid) → FoundOk f → Sec (the_grid_given f) gds_least (gds_for f)
+found_sec None o = empty_sec gds_least
+found_sec (Some g) o = gds_sec g o
 
-pub found-most : (f : Found) → length (gds_for f) ≤ thinned_length
-found-most Nothing = omega arith
-found-most (Given g) = omega (arith, gds-length g, (long-enough (kind_of g.geometry)).1)
+pub found-most : (f : Option Grid) → length (gds_for f) ≤ thinned_length
+found-most None = omega arith
+found-most (Some g) = omega (arith, gds-length g, (long-enough (kind_of g.geometry)).1)
 
-pub found_back : (s : List ℕ) (k : ℕ) (f : Found) (rest : List ℕ) → drop k s ≡ gds_for f ++ rest → FoundOk f
-    → cond (the_grid_given f) (Given (the_grid_at s (part_is k (gds_for f)))) Nothing ≡ f
-found_back s k Nothing rest e o = refl
-found_back s k (Given g) rest e o = ap Given (grid-back s k g rest e o)
+pub found_back : (s : List ℕ) (k : ℕ) (f : Option Grid) (rest : List ℕ) → drop k s ≡ gds_for f ++ rest → FoundOk f
+    → cond (the_grid_given f) (Some (the_grid_at s (part_is k (gds_for f)))) None ≡ f
+found_back s k None rest e o = refl
+found_back s k (Some g) rest e o = ap Some (grid-back s k g rest e o)
 
-pub found_none : (s : List ℕ) (k : ℕ) (f : Found) (rest : List ℕ) → drop k s ≡ gds_for f ++ rest → FoundOk f
+pub found_none : (s : List ℕ) (k : ℕ) (f : Option Grid) (rest : List ℕ) → drop k s ≡ gds_for f ++ rest → FoundOk f
     → (the_grid_given f && the_gds_bad s (part_is k (gds_for f))) ≡ false
-found_none s k Nothing rest e o = refl
-found_none s k (Given g) rest e o = gds-none s k g rest e o
+found_none s k None rest e o = refl
+found_none s k (Some g) rest e o = gds-none s k g rest e o
 
-pub found-clean : (s : List ℕ) (k : ℕ) (f : Found) (rest : List ℕ) → drop k s ≡ gds_for f ++ rest → FoundOk f
+pub found-clean : (s : List ℕ) (k : ℕ) (f : Option Grid) (rest : List ℕ) → drop k s ≡ gds_for f ++ rest → FoundOk f
     → GridClean (the_grid_given f) s (part_is k (gds_for f))
-found-clean s k Nothing rest e o = clean-away (grid_stains s (part_is k []))
-found-clean s k (Given g) rest e o = clean-there (grid_stains s (part_is k (gds_of g))) (grid-clean s k g rest e o)
+found-clean s k None rest e o = clean-away (grid_stains s (part_is k []))
+found-clean s k (Some g) rest e o = clean-there (grid_stains s (part_is k (gds_of g))) (grid-clean s k g rest e o)
 
 -- the same octet 7 picks the same grid
-pub from-same : (f : Found) (s : List ℕ) (k : ℕ) (p : List ℕ) → octet s k 7 ≡ octet p 0 7
+pub from-same : (f : Option Grid) (s : List ℕ) (k : ℕ) (p : List ℕ) → octet s k 7 ≡ octet p 0 7
     → the_grid_from f s k ≡ the_grid_from f p 0
 unfolding the_grid_from
-from-same (Given g) s k p e = refl
-from-same Nothing s k p e = ap (lookup catalogue) e
+from-same (Some g) s k p e = refl
+from-same None s k p e = ap (lookup catalogue) e
 
 -- the octants' counts, known again
 same-counts : (xs ys : List ℕ) → same_counts xs ys ≡ true → xs ≡ ys
@@ -347,6 +347,6 @@ written s p w l e h g z =
 -- or none
 pub found_here : (b : Bool) (s : List ℕ) (p : Part) → Wide 8 s → p.start + p.len ≤ length s → Cut b gds_least s p
     → (b && the_gds_bad s p) ≡ false → (b ≡ true → any_of (grid_faults (the_grid_at s p)) ≡ false) → GridClean b s p
-    → gds_for (cond b (Given (the_grid_at s p)) Nothing) ++ drop (p.start + p.len) s ≡ drop p.start s
+    → gds_for (cond b (Some (the_grid_at s p)) None) ++ drop (p.start + p.len) s ≡ drop p.start s
 found_here false s p w l e h g c = absent-here s p.start p.len e.says
 found_here true s p w l e h g c = written s p w l e h (g refl) (there-clean (grid_stains s p) c)

@@ -1,5 +1,6 @@
 -- What is read of a message does not depend on its padding bits nor on its reserved octets: every field lies outside of
 -- them, section by section.
+use Rattle.std.specs.Prelude.{None, Option, Some}
 use Prim.Native.Nat.{ℕ, ◌+◌, ◌-◌, ◌*◌, ◌/◌, ◌%◌, ◌≤◌, ◌<◌}
 use mathlib.Core.Bool.{Bool, true, false, not, ◌&&◌, cond}
 use mathlib.Core.Path.{◌≡◌, refl, sym, subst, ◌∙◌, ap}
@@ -17,8 +18,8 @@ use Rattle.bits.proofs.Fill.{tab_ext}
 use Rattle.bits.proofs.Trip.{runs_ext}
 use Rattle.bits.proofs.Cut.{bits-drop, bits-take, octets-here}
 use Rattle.bits.proofs.Marks.{count_same}
-use Rattle.rules.specs.declared.{Part.Part, Places.Places, Packing.Packing, Found.Found, Found.TheVariants.Nothing}
-use Rattle.rules.specs.declared.{Found.TheVariants.Given, Bitmap.Bitmap, Bitmap.TheVariants.Without}
+use Rattle.rules.specs.declared.{Part.Part, Places.Places, Packing.Packing, Grid.Grid}
+use Rattle.rules.specs.declared.{Bitmap.Bitmap, Bitmap.TheVariants.Without}
 use Rattle.rules.specs.declared.{Bitmap.TheVariants.Carried, Bitmap.TheVariants.Stored}
 use Rattle.rules.specs.Bounds.{message_least, message_most}
 use Rattle.rules.specs.Numbers.{octet, bit, number, signed, not_within}
@@ -312,24 +313,24 @@ module _ (s o : List ℕ) (lent : Lent) (ws : Below 256 s) (wo : Below 256 o) (l
   grid-in : grid_in o ≡ grid_in s
   unfolding grid_in
   grid-in =
-      (λ i. cond (grid-there i) (Given (the_grid_at o (places_same i).gds)) Nothing)
+      (λ i. cond (grid-there i) (Some (the_grid_at o (places_same i).gds)) None)
       ∙ found (the_has_grid s pds_start) grid-same
     where
       found : (b : Bool) → (b ≡ true → the_grid_at o P ≡ the_grid_at s P)
-          → cond b (Given (the_grid_at o P)) Nothing ≡ cond b (Given (the_grid_at s P)) Nothing
-      found true h = ap Given (h refl)
+          → cond b (Some (the_grid_at o P)) None ≡ cond b (Some (the_grid_at s P)) None
+      found true h = ap Some (h refl)
       found false h = refl
 
   grid-of : grid_of o ≡ grid_of s
   unfolding grid_of
   grid-of =
-      ap (λ (f : Found). the_grid_from f o pds_start) grid-in
+      ap (λ (f : Option Grid). the_grid_from f o pds_start) grid-in
       ∙ from-same (grid_in s) o 8 (drop 8 s) (pds-octet 14 (omega arith) ∙ sym (get_or-drop 8 s 6 0))
       ∙ sym (from-same (grid_in s) s 8 (drop 8 s) (sym (get_or-drop 8 s 6 0)))
 
   points-same : points_in o ≡ points_in s
   unfolding points_in
-  points-same = ap (λ (f : Found). points_of (grid_or_zeros f)) grid-of
+  points-same = ap (λ (f : Option Grid). points_of (grid_or_zeros f)) grid-of
 
   -- the bitmap
   map-number : the_has_bitmap s pds_start ≡ true → number o M 5 6 ≡ number s M 5 6
@@ -477,7 +478,7 @@ module _ (s o : List ℕ) (lent : Lent) (ws : Below 256 s) (wo : Below 256 o) (l
     time = time-passes;
     found = ap the_grid_missing grid-of ∙ j.found;
     gds = gds-passes;
-    grid = ap (λ (f : Found). any_of (grid_faults (grid_or_zeros f))) grid-of ∙ j.grid;
+    grid = ap (λ (f : Option Grid). any_of (grid_faults (grid_or_zeros f))) grid-of ∙ j.grid;
     bitmap = (λ i. any_of (bitmap_faults o lent (places_same i).bms (bitmap-same i) (points-same i)))
         ∙ ap any_of (map-passes (bitmap_in s) refl) ∙ j.bitmap;
     packing = ap (λ (p : Packing). any_of (packing_faults p)) packing-same ∙ j.packing;

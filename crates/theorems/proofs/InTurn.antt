@@ -1,7 +1,7 @@
 -- The values of a message as the bit reader takes them: the place after k of them is a sum as long as it lies in the
 -- message, and there the k-th value stands.
 use Prim.Native.Nat.{ℕ, zero, suc, ◌+◌, ◌-◌, ◌*◌, ◌%◌, ◌≤◌}
-use mathlib.Core.Path.{◌≡◌, refl, sym, ap, ◌∙◌}
+use mathlib.Core.Path.{◌≡◌, sym, ap, ◌∙◌}
 use mathlib.Core.Bool.{Bool, cond}
 use mathlib.Core.List.{List, ◌++◌}
 use native.Mathlib.Nat.{zero-mul}
@@ -17,6 +17,7 @@ use Rattle.rules.specs.Places.{after, places_of}
 use Rattle.rules.specs.Bitmap.{Lent}
 use Rattle.rules.specs.Values.{the_length_bad}
 use Rattle.rules.specs.Reading.{present_count, packing_in, data_in}
+use Rattle.std.specs.Prelude.{Some}
 use Rattle.runs.specs.Take.{fetched, unpacked}
 use Rattle.runs.proofs.Lists.{unpacked-fits}
 use Rattle.bitreader.specs.Taken.{place_most, reached, taken_at, the_data_place}
@@ -91,9 +92,10 @@ taken_in_turn s lent t = record {
       ∙ sym (value-is s _ (bits s lent t) (omega (arith, narrow s lent t))
       ∙ ap (λ (p : ℕ). run (bits_in 8 s) p (bits s lent t)) (place s lent t k (omega arith)));
   all = all-taken s lent t;
-  reached = λ room l. all-reached _ _ _ room (narrow s lent t) l _ refl
-      ∙ ap (λ (p : ℕ). reached p (m s lent t * bits s lent t)) (begins s lent t)
+  reached = λ room l. all-reached _ _ _ room (narrow s lent t) l
+      ∙ ap (λ (p : ℕ). Some p)
+      (ap (λ (p : ℕ). reached p (m s lent t * bits s lent t)) (begins s lent t)
       ∙ reached-sum _ _ (omega (arith, ends s lent t, early s lent t))
-      ∙ sym (place s lent t (m s lent t) (omega arith));
+      ∙ sym (place s lent t (m s lent t) (omega arith)));
   inside = omega (arith, ends s lent t, place s lent t (m s lent t) (omega arith));
 }

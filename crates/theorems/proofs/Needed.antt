@@ -1,5 +1,6 @@
 -- Each stain that `canonical` asks for is needed, of each kind of grid: for each a message that is taken, has that stain
 -- alone and does not come back; by computing with the specimen, on a grid of that kind.
+use Rattle.std.specs.Prelude.{Some}
 use Prim.Native.Nat.{ℕ, zero, suc, ◌+◌, ◌<◌}
 use mathlib.Core.Bool.{Bool, true, false, ◌&&◌}
 use mathlib.Core.Path.{◌≡◌, refl, ap}
@@ -13,7 +14,7 @@ use lib.ListN.{set, get_or}
 use Rattle.bits.proofs.Below.{upto}
 use Rattle.rules.specs.declared.{Plane.Plane, Geometry.Geometry, Geometry.TheVariants.Mercator}
 use Rattle.rules.specs.declared.{Geometry.TheVariants.Lambert, Geometry.TheVariants.Gaussian}
-use Rattle.rules.specs.declared.{Geometry.TheVariants.Polar, Found.TheVariants.Given}
+use Rattle.rules.specs.declared.{Geometry.TheVariants.Polar}
 use Rattle.rules.specs.Numbers.{plain}
 use Rattle.rules.specs.Table.{any_of}
 use Rattle.rules.specs.Places.{places_of}
@@ -58,7 +59,7 @@ on x =
     message (record {
       pds = w.pds;
       form = record {
-        grid = Given (grid_with 2 2 (plain (pos 50000)) (plain (negsuc 1999)) 128 64 x);
+        grid = Some (grid_with 2 2 (plain (pos 50000)) (plain (negsuc 1999)) 128 64 x);
         bitmap = w.form.bitmap;
         packing = w.form.packing;
       };

@@ -1,6 +1,7 @@
 -- Demand 2: place and point determine each other on every grid. Once, over any list of counts: of the lines of a grid in
 -- message order, a point is a line and a position in it, each turned or not. A rectangle's lines have equal counts, its
 -- rows, or its columns where bit 3 is set; an octant's are its rows.
+use Rattle.std.specs.Prelude.{None, Some}
 use Prim.Native.Nat.{ℕ, zero, suc, ◌+◌, ◌-◌, ◌*◌, ◌/◌, ◌%◌, ◌<◌, ◌≤◌}
 use mathlib.Core.Bool.{Bool, true, false, ◌&&◌, cond}
 use mathlib.Core.Path.{◌≡◌, refl, sym, subst, ◌∙◌, ap}
@@ -12,8 +13,7 @@ use lib.Dec.{ltb}
 use lib.ListN.{length, get_or, replicate, length-replicate, get_or-replicate}
 use Rattle.bits.proofs.Products.{left-positive}
 use Rattle.rules.specs.declared.{Shape.Shape, Shape.TheVariants.Even}
-use Rattle.rules.specs.declared.{Shape.TheVariants.Uneven, GridPoint.GridPoint, Spot.Spot, Charted.TheVariants.On}
-use Rattle.rules.specs.declared.{Charted.TheVariants.Off, Pointed.TheVariants.At, Pointed.TheVariants.Off as Nowhere}
+use Rattle.rules.specs.declared.{Shape.TheVariants.Uneven, GridPoint.GridPoint, Spot.Spot}
 use Rattle.rules.specs.Counts.{total, row_of, in_row, the_before_row, counts_of}
 use Rattle.rules.specs.Chart.{west, north, by_column, turned, spot_of, point_of, the_spot_among, across, the_point_among, the_points_on}
 use Rattle.rules.specs.Chart.{the_rows_on, the_row_long, the_spot_on, the_point_on, charted, pointed}
@@ -255,23 +255,23 @@ equal-counts ni nj scan way = (
 )
 
 -- as answered: on the chart exactly where its number is a point's
-on-is : (b : Bool) (x c : Spot) → cond b (On x) Off ≡ On c → (b ≡ true) × (x ≡ c)
+on-is : (b : Bool) (x c : Spot) → cond b (Some x) None ≡ Some c → (b ≡ true) × (x ≡ c)
 on-is true x c e = (refl, cc)
 on-is false x c e = absurd (let z : ◌≡◌ {A = ℕ} 0 1 = cc in omega arith)
 
 module _ (g : Shape) (k : GridPoint) (c : Spot) where
-  on-chart : the_spot_on g k.0 ≡ c → k.0 < the_points_on g → charted g k ≡ On c
+  on-chart : the_spot_on g k.0 ≡ c → k.0 < the_points_on g → charted g k ≡ Some c
   unfolding charted
-  on-chart e l = ap (λ (b : Bool). cond b (On (the_spot_on g k.0)) Off) (lt-ltb k.0 (the_points_on g) l) ∙ ap On e
+  on-chart e l = ap (λ (b : Bool). cond b (Some (the_spot_on g k.0)) None) (lt-ltb k.0 (the_points_on g) l) ∙ ap Some e
 
-  at-point : the_point_on g c ≡ k.0 → c.row < the_rows_on g → c.column < the_row_long g c.row → pointed g c ≡ At k
+  at-point : the_point_on g c ≡ k.0 → c.row < the_rows_on g → c.column < the_row_long g c.row → pointed g c ≡ Some k
   unfolding pointed
   at-point e r l =
       let a = lt-ltb c.row (the_rows_on g) r in
       let b = lt-ltb c.column (the_row_long g c.row) l in
-      λ i. cond (a i && b i) (At (record { 0 = e i })) Nowhere
+      λ i. cond (a i && b i) (Some (record { 0 = e i })) None
 
-  to : charted g k ≡ On c → pointed g c ≡ At k
+  to : charted g k ≡ Some c → pointed g c ≡ Some k
   unfolding charted
   to e =
       let h = on-is (ltb k.0 (the_points_on g)) (the_spot_on g k.0) c e in
@@ -280,7 +280,7 @@ module _ (g : Shape) (k : GridPoint) (c : Spot) where
       (subst (λ (x : Spot). x.row < the_rows_on g) h.1 q.0)
       (subst (λ (x : Spot). x.column < the_row_long g x.row) h.1 q.1)
 
-  from : pointed g c ≡ At k → charted g k ≡ On c
+  from : pointed g c ≡ Some k → charted g k ≡ Some c
   from e =
       let f = found g c k e in
       let q = (place-point g).1 c f.row f.column in

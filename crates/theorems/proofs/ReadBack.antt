@@ -1,5 +1,6 @@
 -- The message that the writer has for parts it accepts is taken, and its parts are those; section by section from where
 -- each stands, then the reader's twelve rows from the writer's eight.
+use Rattle.std.specs.Prelude.{None, Option, Some}
 use Prim.Native.Nat.{ℕ, ◌+◌, ◌^◌, ◌≤◌, ◌<◌}
 use mathlib.Core.Bool.{Bool, ◌&&◌, cond}
 use mathlib.Core.Path.{◌≡◌, sym, ap, subst, ◌∙◌}
@@ -10,8 +11,7 @@ use lib.Dec.{T}
 use Rattle.bits.specs.Bits.{count}
 use Rattle.bits.specs.Tables.{tab}
 use Rattle.bits.proofs.Marks.{count_same}
-use Rattle.rules.specs.declared.{Places.Places, Packing.Packing, Found.Found, Found.TheVariants.Nothing}
-use Rattle.rules.specs.declared.{Found.TheVariants.Given}
+use Rattle.rules.specs.declared.{Places.Places, Packing.Packing, Grid.Grid}
 use Rattle.rules.specs.Bounds.{gds_least, bms_least, points_most}
 use Rattle.rules.specs.Numbers.{laid, joined}
 use Rattle.rules.specs.Table.{refusal, accepted, any_of}
@@ -140,19 +140,19 @@ module _ (w : Parts) (out : List ℕ) (gf : FoundFits w.form.grid) (nf : NumberF
   grid-in : grid_in s ≡ w.form.grid
   unfolding grid_in
   grid-in =
-      (λ i. cond (grid-there i) (Given (the_grid_at s (places i).gds)) Nothing)
+      (λ i. cond (grid-there i) (Some (the_grid_at s (places i).gds)) None)
       ∙ found_back s (8 + length w.pds) w.form.grid _ stands-g grid_fine
 
   grid-of : grid_of s ≡ grid_for w
   unfolding grid_of grid_for
   grid-of =
-      ap (λ (f : Found). the_grid_from f s pds_start) grid-in
+      ap (λ (f : Option Grid). the_grid_from f s pds_start) grid-in
       ∙ from-same w.form.grid s 8 w.pds
       (pds-octet s w.pds (gds_part w) (bms_part w) (bds_part w) whole-laid 6 (omega arith))
 
   pub points-in : points_in s ≡ points_for w
   unfolding points_in points_for
-  points-in = ap (λ (f : Found). points_of (grid_or_zeros f)) grid-of
+  points-in = ap (λ (f : Option Grid). points_of (grid_or_zeros f)) grid-of
 
   pub bitmap-in : bitmap_in s ≡ w.form.bitmap
   unfolding bitmap_in
@@ -224,7 +224,7 @@ module _ (w : Parts) (out : List ℕ) (gf : FoundFits w.form.grid) (nf : NumberF
         found = ap the_grid_missing grid-of ∙ told.found;
         gds = (λ i. grid-there i && the_gds_bad s (places i).gds)
             ∙ found_none s (8 + length p) w.form.grid _ stands-g grid_fine;
-        grid = ap (λ (f : Found). any_of (grid_faults (grid_or_zeros f))) grid-of ∙ told.grid;
+        grid = ap (λ (f : Option Grid). any_of (grid_faults (grid_or_zeros f))) grid-of ∙ told.grid;
         bitmap =
             (λ i. any_of (bitmap_faults s w.lent (places i).bms (bitmap-in i) (points-in i)))
             ∙ bitmap-none s w.lent (8 + length p + length g) (marks_for w) (points_for w) _ few marks-bits

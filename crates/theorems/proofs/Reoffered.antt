@@ -1,5 +1,6 @@
 -- The writer accepts the parts that reading a taken message gives, into room for what it writes: each of its rows from
 -- the reader's.
+use Rattle.std.specs.Prelude.{None, Option, Some}
 use Prim.Native.Nat.{ℕ, ◌+◌, ◌*◌, ◌%◌, ◌^◌, ◌≤◌, ◌<◌}
 use mathlib.Core.Bool.{Bool, true, false, not, ◌&&◌, cond}
 use mathlib.Core.Path.{◌≡◌, refl, sym, subst, ◌∙◌, ap}
@@ -16,8 +17,8 @@ use Rattle.bits.proofs.Fill.{length-tab, get_or-tab}
 use Rattle.bits.proofs.Below.{no-below}
 use Rattle.bits.proofs.Cut.{bits-take, run-part}
 use Rattle.bits.proofs.Marks.{wide-tab}
-use Rattle.rules.specs.declared.{Part.Part, Grid.Grid, Found.Found, Found.TheVariants.Nothing}
-use Rattle.rules.specs.declared.{Found.TheVariants.Given, Bitmap.Bitmap, Bitmap.TheVariants.Without}
+use Rattle.rules.specs.declared.{Part.Part, Grid.Grid}
+use Rattle.rules.specs.declared.{Bitmap.Bitmap, Bitmap.TheVariants.Without}
 use Rattle.rules.specs.declared.{Bitmap.TheVariants.Carried, Bitmap.TheVariants.Stored}
 use Rattle.rules.specs.Bounds.{pds_least, pds_most, exponent_most}
 use Rattle.rules.specs.Numbers.{number, sign, signed, beyond}
@@ -75,7 +76,7 @@ differ-none : (a b : Bool) → a ≡ b → differ a b ≡ false
 differ-none a true e = ap (λ (x : Bool). differ x true) e
 differ-none a false e = ap (λ (x : Bool). differ x false) e
 
-grid-given : (b : Bool) (g : Grid) → b ≡ the_grid_given (cond b (Given g) Nothing)
+grid-given : (b : Bool) (g : Grid) → b ≡ the_grid_given (cond b (Some g) None)
 grid-given true g = refl
 grid-given false g = refl
 
@@ -120,7 +121,7 @@ module _ (s : List ℕ) (lent : Lent) (t : Taken s lent) where
 
   pub points-for : points_for w ≡ n
   unfolding points_for points_in
-  points-for = ap (λ (f : Found). points_of (grid_or_zeros f)) grid-for
+  points-for = ap (λ (f : Option Grid). points_of (grid_or_zeros f)) grid-for
 
   present : Bits (present_in s lent)
   unfolding present_in
@@ -228,7 +229,7 @@ module _ (s : List ℕ) (lent : Lent) (t : Taken s lent) where
     pds = row5;
     time = ap any_of (sym (time-same s pds_start w.pds pds-octet)) ∙ j.time;
     found = ap the_grid_missing grid-for ∙ j.found;
-    grid = ap (λ (f : Found). any_of (grid_faults (grid_or_zeros f))) grid-for ∙ j.grid;
+    grid = ap (λ (f : Option Grid). any_of (grid_faults (grid_or_zeros f))) grid-for ∙ j.grid;
     stored =
         ap (λ (k : ℕ). any_of (stored_faults (bitmap_in s) lent w.values w.marks k)) points-for
         ∙ stored-none (bitmap_in s) s lent (places_of s).bms w.values w.marks n j.bitmap by_map;

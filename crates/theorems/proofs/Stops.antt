@@ -6,7 +6,8 @@ use mathlib.Core.Bool.{Bool, true, false, ◌&&◌, ◌||◌, cond}
 use mathlib.Core.List.{List, [], ◌∷◌}
 use lib.Dec.{T, eqb, eqb→eq}
 use lib.Ieee.Fits.{and_l, and_r}
-use Rattle.rules.specs.declared.{Refusal.Refusal, Form.Form, Display.Display, Spot.Spot}
+use Rattle.rules.specs.declared.{Refusal.Refusal, Form.Form, Spot.Spot}
+use Rattle.rules.specs.Answers.{Display}
 use Rattle.rules.specs.Table.{Row, given, refusal, accepted, first_or, first}
 use Rattle.rules.specs.Walk.{section_rows, walk_rows, walk_of}
 use Rattle.rules.specs.Bitmap.{Lent}

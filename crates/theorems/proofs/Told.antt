@@ -11,7 +11,8 @@ use lib.ListN.{length, take}
 use Rattle.bits.specs.Bits.{bits_in, run, count}
 use Rattle.bits.proofs.Cut.{run-part}
 use Rattle.bits.proofs.Marks.{count_same}
-use Rattle.rules.specs.declared.{Refusal.Refusal, Header.Header}
+use Rattle.rules.specs.declared.{Refusal.Refusal}
+use Rattle.rules.specs.Answers.{Header}
 use Rattle.rules.specs.Numbers.{number, signed, decimal_at}
 use Rattle.rules.specs.Table.{row, refusal, accepted}
 use Rattle.rules.specs.Places.{octets_of, pds_start, places_of, the_section_at}

@@ -1,5 +1,6 @@
 -- Demand 2: a message that is taken and canonical, read and written again, gives the same octets; from its end to its
 -- front, each section in the form `written ++ what follows ≡ what stands there`.
+use Rattle.std.specs.Prelude.{None, Some}
 use Prim.Native.Nat.{ℕ, ◌+◌, ◌*◌, ◌≤◌}
 use mathlib.Core.Bool.{Bool, true, false, not, cond, ◌&&◌}
 use mathlib.Core.Path.{◌≡◌, refl, sym, ◌∙◌, ap}
@@ -10,7 +11,7 @@ use lib.Dec.{T}
 use lib.ListN.{length, take, drop, length-drop}
 use lib.Seq.{drop-length}
 use Rattle.bits.proofs.Cut.{cut}
-use Rattle.rules.specs.declared.{Part.Part, Grid.Grid, Found.TheVariants.Nothing, Found.TheVariants.Given}
+use Rattle.rules.specs.declared.{Part.Part, Grid.Grid}
 use Rattle.rules.specs.Numbers.{laid}
 use Rattle.rules.specs.Table.{any_of}
 use Rattle.rules.specs.Grid.{the_grid_at, grid_stains, the_grid_from, grid_or_zeros, grid_faults}
@@ -69,7 +70,7 @@ clean-canonical s lent c =
 
 -- the grid of a section that is there is the one judged
 judged-grid : (b : Bool) (s : List ℕ) (g : Grid)
-    → any_of (grid_faults (grid_or_zeros (the_grid_from (cond b (Given g) Nothing) s pds_start))) ≡ false
+    → any_of (grid_faults (grid_or_zeros (the_grid_from (cond b (Some g) None) s pds_start))) ≡ false
     → b ≡ true → any_of (grid_faults g) ≡ false
 unfolding the_grid_from
 judged-grid true s g h e = h

@@ -1,9 +1,6 @@
 -- Document 02, R-6: what the cursor answers, beside a full read, and from any index that is not refused.
-use Rattle.std.specs.Prelude.{ℕ, ◌+◌, ◌<◌, ◌≤◌, ◌≡◌, cond, List, T, eqb, length, get_or}
-use Rattle.rules.specs.declared.{Spot.Spot, Pointed.Pointed, Pointed.TheVariants.At}
-use Rattle.rules.specs.declared.{Pointed.TheVariants.Off as Nowhere, UnderCursor.UnderCursor}
-use Rattle.rules.specs.declared.{UnderCursor.TheVariants.Refused, UnderCursor.TheVariants.Absent}
-use Rattle.rules.specs.declared.{UnderCursor.TheVariants.Value}
+use Rattle.std.specs.Prelude.{ℕ, ◌+◌, ◌<◌, ◌≤◌, ◌≡◌, cond, List, T, eqb, length, get_or, Err, None, Ok, Option, Result, Some}
+use Rattle.rules.specs.declared.{Spot.Spot, GridPoint.GridPoint, Refusal.Refusal}
 use Rattle.rules.specs.Table.{refusal, accepted}
 use Rattle.rules.specs.Chart.{the_point_on, pointed}
 use Rattle.rules.specs.Bitmap.{Lent, mark_of, value_of}
@@ -15,9 +12,9 @@ use Rattle.theorems.specs.Reads.{StandsAt}
 
 -- what lists that a full read left give at a place of the chart: the value of its point, or that its mark is 0; a place
 -- outside has none
-abbrev pub read_at : List ℕ → List ℕ → Pointed → UnderCursor
-read_at values marks (At k) = cond (eqb (mark_of marks k.0) 1) (Value (value_of values k.0)) Absent
-read_at values marks Nowhere = Refused (refusal 24)
+abbrev pub read_at : List ℕ → List ℕ → Option GridPoint → Result (Option ℕ) Refusal
+read_at values marks (Some k) = cond (eqb (mark_of marks k.0) 1) (Ok (Some (value_of values k.0))) (Ok None)
+read_at values marks None = Err (refusal 24)
 
 -- "The answer must equal what a full read gives there, for any accepted message and an index filled from it": whatever
 -- the lent lists held, at every place inside the chart and outside. So an index filled from the message is never 25
@@ -31,14 +28,14 @@ CursorReads =
 -- "From any index that isn't refused, the value is the one whose data number is its group's entry plus the ones before
 -- the place in that group": there is such a value among the m, and its bits lie in the data section
 pub record FromIndex (s : List ℕ) (lent : Lent) (index : List ℕ) (c : Spot) (i : ℕ) : Type 0 where
-  pub place : pointed (shape_in s) c ≡ At (record { 0 = i })
+  pub place : pointed (shape_in s) c ≡ Some (record { 0 = i })
   pub below : i < points_in s
   pub bit : present_in s lent i < 2
   pub here : present_in s lent i ≡ 1
       → let k = entry_of index (group_of i) + ones_up_to (present_in s lent) i in
-      (k < present_count s lent) × (cursor_of s lent index c ≡ Value (get_or (data_in s lent) k 0))
+      (k < present_count s lent) × (cursor_of s lent index c ≡ (Ok (Some (get_or (data_in s lent) k 0))))
       × StandsAt s lent k (packing_in s).bits
-  pub away : present_in s lent i ≡ 0 → cursor_of s lent index c ≡ Absent
+  pub away : present_in s lent i ≡ 0 → cursor_of s lent index c ≡ (Ok None)
 
 abbrev pub CursorFromIndex : Type 0
 CursorFromIndex =

@@ -1,17 +1,18 @@
 -- Document 00, demand 2: "Reading gives exactly what GRIB Edition 1 defines: sections that tile the message, packed
 -- integers, present points, scales, and the row and column of each grid point".
-use Rattle.std.specs.Prelude.{ℕ, ◌+◌, ◌-◌, ◌*◌, ◌^◌, ◌<◌, ◌≤◌, ◌≡◌, ◌↔◌, ◌⊎◌, true, false, cond, List, [], ◌∷◌, map, T, eqb, pos, negsuc, length, get_or, take, drop, replicate}
+use Rattle.std.specs.Prelude.{ℕ, ◌+◌, ◌-◌, ◌*◌, ◌^◌, ◌<◌, ◌≤◌, ◌≡◌, ◌↔◌, ◌⊎◌, true, false, cond, List, [], ◌∷◌, map, T, eqb, pos, negsuc, length, get_or, take, drop, replicate, Some}
 use Rattle.std.specs.Int.Signed.{lt_z}
 use Rattle.std.specs.Float.{binary64}
 use Rattle.std.specs.Float.Ieee.{of_bits}
 use Rattle.std.specs.Float.Ieee.Exact.{HasValue}
 use Rattle.bits.specs.Bits.{bits_in, run, count}
-use Rattle.rules.specs.declared.{Header.Header, Signed.Signed, Part.Part, Bitmap.TheVariants.Without, Shape.Shape}
+use Rattle.rules.specs.declared.{Signed.Signed, Part.Part, Bitmap.TheVariants.Without, Shape.Shape}
+use Rattle.rules.specs.Answers.{Header}
 use Rattle.rules.specs.declared.{Shape.TheVariants.Even, Shape.TheVariants.Uneven, Geometry.Geometry}
 use Rattle.rules.specs.declared.{Geometry.TheVariants.LatLon, Geometry.TheVariants.Thinned}
 use Rattle.rules.specs.declared.{Geometry.TheVariants.Mercator, Geometry.TheVariants.Lambert}
 use Rattle.rules.specs.declared.{Geometry.TheVariants.Gaussian, Geometry.TheVariants.Polar, Grid.Grid}
-use Rattle.rules.specs.declared.{GridPoint.GridPoint, Spot.Spot, Charted.TheVariants.On, Pointed.TheVariants.At}
+use Rattle.rules.specs.declared.{GridPoint.GridPoint, Spot.Spot}
 use Rattle.rules.specs.Bounds.{bds_head}
 use Rattle.rules.specs.Numbers.{joined, decimal_at}
 use Rattle.rules.specs.Table.{refusal, accepted}
@@ -222,7 +223,7 @@ PlacePoint =
 
 -- and so as they are answered
 abbrev pub PlacePointAnswers : Type 0
-PlacePointAnswers = (g : Shape) (k : GridPoint) (c : Spot) → (charted g k ≡ On c) ↔ (pointed g c ≡ At k)
+PlacePointAnswers = (g : Shape) (k : GridPoint) (c : Spot) → (charted g k ≡ Some c) ↔ (pointed g c ≡ Some k)
 
 -- R-1: "A place is then a row and a position in that row": the rectangle scanned by rows is the case of equal counts,
 -- its points, and the place of each and back

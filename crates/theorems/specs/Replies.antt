@@ -1,9 +1,9 @@
 -- Document 00, demand 1, and document 01, "How tight the contracts are": every input gets one definite reply, and a
 -- refusal changes nothing.
-use Rattle.std.specs.Prelude.{ℕ, ◌<◌, ◌≡◌, ◌⊎◌, true, false, cond, List, [], ◌∷◌, ◌++◌, T, eqb, length, take, drop}
+use Rattle.std.specs.Prelude.{ℕ, ◌<◌, ◌≡◌, ◌⊎◌, true, false, cond, List, [], ◌∷◌, ◌++◌, T, eqb, length, take, drop, Err}
 use Rattle.std.specs.Float.{binary64}
 use Rattle.std.specs.Float.Ieee.{of_bits}
-use Rattle.rules.specs.declared.{Refusal.Refusal, Form.Form, Spot.Spot, UnderCursor.TheVariants.Refused}
+use Rattle.rules.specs.declared.{Refusal.Refusal, Form.Form, Spot.Spot}
 use Rattle.rules.specs.Table.{Row, given, refusal, accepted, first, filled}
 use Rattle.rules.specs.Bitmap.{Lent, no_bitmap}
 use Rattle.rules.specs.Points.{the_data_number, outside}
@@ -108,7 +108,7 @@ pub record TakenOrRefused : Type 0 where
       × Whole (index_refusal s lent index) (the_groups_for (points_in s)) 0 (index_of s lent index).entries
   pub cursor : (s : List ℕ) (lent : Lent) (index : List ℕ) (c : Spot)
       → let r = cursor_refusal s lent index c in
-      Whole r (under_at s lent index (the_point_on (shape_in s) c)) (Refused r) (cursor_of s lent index c)
+      Whole r (under_at s lent index (the_point_on (shape_in s) c)) (Err r) (cursor_of s lent index c)
   pub write : (w : Parts) (out : List ℕ)
       → ((write_of w out).refusal ≡ write_refusal w out)
       × Whole (write_refusal w out) (length (message w)) 0 (write_of w out).len

@@ -1,9 +1,10 @@
 -- Document 00, demand 2: "Writing gives a message that reads back to the same parts", and "Reading and then writing
 -- gives the same octets when ..".
-use Rattle.std.specs.Prelude.{ℕ, zero, suc, ◌+◌, ◌-◌, ◌*◌, ◌^◌, ◌<◌, ◌≤◌, ◌≡◌, ◌↔◌, ◌⊎◌, Bool, true, false, cond, List, [], ◌∷◌, T, eqb, length, get_or, take}
-use Rattle.rules.specs.declared.{Header.Header, Grid.Grid, Found.Found, Found.TheVariants.Nothing}
-use Rattle.rules.specs.declared.{Found.TheVariants.Given, Bitmap.Bitmap, Bitmap.TheVariants.Without}
-use Rattle.rules.specs.declared.{Bitmap.TheVariants.Carried, Bitmap.TheVariants.Stored, Form.Form, Written.Written}
+use Rattle.std.specs.Prelude.{ℕ, zero, suc, ◌+◌, ◌-◌, ◌*◌, ◌^◌, ◌<◌, ◌≤◌, ◌≡◌, ◌↔◌, ◌⊎◌, Bool, true, false, cond, List, [], ◌∷◌, T, eqb, length, get_or, take, None, Option, Some}
+use Rattle.rules.specs.declared.{Grid.Grid}
+use Rattle.rules.specs.Answers.{Header, Written}
+use Rattle.rules.specs.declared.{Bitmap.Bitmap, Bitmap.TheVariants.Without}
+use Rattle.rules.specs.declared.{Bitmap.TheVariants.Carried, Bitmap.TheVariants.Stored, Form.Form}
 use Rattle.bits.specs.Bits.{bits_in, octets_for}
 use Rattle.rules.specs.Bounds.{pds_most, long_length, bms_head, bds_head, points_most, the_bits_most}
 use Rattle.rules.specs.Numbers.{octet, even_from}
@@ -30,9 +31,9 @@ Below b s = (i : ℕ) → get_or s i 0 < b
 abbrev pub GridFits : Grid → Type 0
 GridFits g = CellsTyped (columns (kind_of g.geometry)) (cells_of g)
 
-abbrev pub FoundFits : Found → Type 0
-FoundFits Nothing = Unit {0}
-FoundFits (Given g) = GridFits g
+abbrev pub FoundFits : Option Grid → Type 0
+FoundFits None = Unit {0}
+FoundFits (Some g) = GridFits g
 
 abbrev pub NumberFits : Bitmap → Type 0
 NumberFits Without = Unit {0}
@@ -49,7 +50,7 @@ handed answer out = take answer.len out
 unfoldable pub parts_from : List ℕ → Lent → Header → List ℕ → List ℕ → Parts
 parts_from s lent h values marks = record {
   pds = octets_of s h.places.pds;
-  form = record { grid = cond (eqb h.places.gds.len 0) Nothing (Given h.grid); bitmap = h.bitmap; packing = h.packing };
+  form = record { grid = cond (eqb h.places.gds.len 0) None (Some h.grid); bitmap = h.bitmap; packing = h.packing };
   scale = h.scale;
   lent = lent;
   values = take h.points values;

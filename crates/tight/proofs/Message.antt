@@ -4,8 +4,5 @@ use Rattle.message.specs.contracts as contracts
 use Rattle.tight.specs.Tight.{Tight}
 use Rattle.tight.proofs.Laws.{by-reply}
 
-pub refused : Tight contracts.refused.ended λ M 𝓤 𝓛. contracts.refused.clauses 𝓛
-refused k g h x y ws vs = by-reply k refl
-
 pub header : Tight contracts.header.ended λ M 𝓤 𝓛. contracts.header.clauses 𝓛
 header k g h x y ws vs = by-reply k refl

@@ -15,12 +15,3 @@ refuse_at k g h x y ws vs = by-reply k refl
 
 pub refuse : Tight contracts.refuse.ended λ M 𝓤 𝓛. contracts.refuse.clauses 𝓛
 refuse k g h x y ws vs = by-reply k refl
-
-pub last : Tight contracts.last.ended λ M 𝓤 𝓛. contracts.last.clauses 𝓛
-last k g h x y ws vs = by-reply k refl
-
-pub unwritten : Tight contracts.unwritten.ended λ M 𝓤 𝓛. contracts.unwritten.clauses 𝓛
-unwritten k g h x y ws vs = by-reply k refl
-
-pub written : Tight contracts.written.ended λ M 𝓤 𝓛. contracts.written.clauses 𝓛
-written k g h x y ws vs = by-reply k refl

@@ -1,15 +1,11 @@
 -- Whether a number has no more than n bits, as the machine tests it.
-use mathlib.Core.Path.{◌≡◌, sym, ap}
+use mathlib.Core.Path.{◌≡◌, sym}
 use mathlib.Core.Bool.{true}
-use Prim.Native.Nat.{ℕ, ◌*◌, ◌%◌, ◌^◌, ◌≤◌, ◌<◌}
+use Prim.Native.Nat.{ℕ, ◌^◌, ◌≤◌, ◌<◌}
 use native.Mathlib.Nat.{lt_of_lt_of_le}
 use lib.Dec.{ltb}
 use lib.Pow.{pow_mono}
 use borrow.Author.Tests.{lt-ltb}
-use Rattle.bits.proofs.Runs.{one_shl}
-
-pub below-some : (v n : ℕ) → n < 32 → ltb v (1 * 2 ^ n % 2 ^ 32) ≡ ltb v (2 ^ n)
-below-some v n h = ap (ltb v) (one_shl 32 n h)
 
 pub below-every : (v n : ℕ) → v < 2 ^ 32 → 32 ≤ n → true ≡ ltb v (2 ^ n)
 below-every v n h l = sym (lt-ltb v (2 ^ n) (lt_of_lt_of_le h (pow_mono l)))

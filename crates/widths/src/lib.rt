@@ -19,10 +19,8 @@ pub fn all_below(vs: &[u32], n: u8) -> bool
     ensures { result ≡ all_below n vs.now }
 {
     let mut all: u32 = 0;
-    let mut i: usize = 0;
-    while i < vs.len() {
-        all = all | vs[i];
-        i += 1;
+    for v in vs {
+        all |= *v;
     }
     below(all, n as usize)
 }

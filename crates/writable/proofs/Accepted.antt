@@ -1,5 +1,6 @@
 -- What the rows leave of the parts once none of them but 14 can apply: each field's bound, and each point's.
-use mathlib.Core.Path.{◌≡◌, refl, sym, ap, ◌∙◌, subst}
+use Rattle.std.specs.Prelude.{Option, Ok}
+use mathlib.Core.Path.{◌≡◌, sym, ◌∙◌, subst}
 use mathlib.Core.Bool.{Bool, false, ◌&&◌}
 use mathlib.Core.List.{List}
 use mathlib.Core.Logic.{⊎_elim}
@@ -11,9 +12,10 @@ use lib.Pow.{pow_pos}
 use lib.ListN.{length, get_or, get_or-eq_default}
 use Rattle.bits.proofs.Runs.{lt_or_ge}
 use Rattle.bits.proofs.Below.{none_below}
-use Rattle.rules.specs.declared.{Refusal.Refusal, Found.Found, Form.Form, Scale.Scale, Packing.Packing}
+use Rattle.rules.specs.declared.{Form.Form, Scale.Scale, Packing.Packing, Grid.Grid}
 use Rattle.rules.specs.Bounds.{pds_least, pds_most, points_most, the_bits_most, exponent_most}
-use Rattle.rules.specs.Table.{any_of, first}
+use Rattle.rules.specs.Table.{any_of}
+use Rattle.rules.specs.Answers.{judged}
 use Rattle.rules.specs.Grid.{grid_or_zeros, grid_faults, points_of}
 use Rattle.rules.specs.Bitmap.{Lent, the_bitmap_given, mark_of, value_of}
 use Rattle.rules.specs.Values.{packing_faults}
@@ -21,7 +23,7 @@ use Rattle.rules.specs.Writing.{pds_faults, lists_fit, point_bad}
 use Rattle.bits.proofs.Tests.{both, or_right}
 use Rattle.laws.proofs.Whole.{within}
 use Rattle.laws.specs.Signs.{SignFree}
-use Rattle.reply.proofs.Stages.{passed}
+use Rattle.reply.proofs.Judged.{passed}
 use Rattle.laws.proofs.Grids.{grid-points}
 use Rattle.laws.proofs.Rows.{none_of}
 use Rattle.laws.proofs.Points.{flags-two, point_ok as point_kept, even-marks}
@@ -57,7 +59,7 @@ scale_ok scale packing h =
       bits = ltb-false the_bits_most packing.bits d.1.1.0;
     }
 
-pub record Accepted (pds : List ℕ) (form : Form) (scale : Scale) (values marks : List ℕ) (found : Found) (n : ℕ) : Type 0 where
+pub record Accepted (pds : List ℕ) (form : Form) (scale : Scale) (values marks : List ℕ) (found : Option Grid) (n : ℕ) : Type 0 where
   pub pds-most : length pds ≤ pds_most
   pub points-most : points_of (grid_or_zeros found) ≤ points_most
   pub grid : any_of (grid_faults (grid_or_zeros found)) ≡ false
@@ -66,12 +68,12 @@ pub record Accepted (pds : List ℕ) (form : Form) (scale : Scale) (values marks
   pub marks-long : length marks ≡ n
   pub point : (i : ℕ) → i < n → PointOk form.packing.bits (mark_of marks i) (value_of values i)
 
-pub accepted-of : (pds : List ℕ) (form : Form) (scale : Scale) (lent : Lent) (values marks : List ℕ) (found : Found) (n : ℕ) (r : Refusal)
-    → r ≡ first (own_rows pds form scale lent values marks found n) → r.number ≡ 0
+pub accepted-of : (pds : List ℕ) (form : Form) (scale : Scale) (lent : Lent) (values marks : List ℕ) (found : Option Grid) (n : ℕ) (u : Unit {0})
+    → Ok u ≡ judged (own_rows pds form scale lent values marks found n)
     → Accepted pds form scale values marks found n
 unfolding own_rows early_rows front_rows middle_rows list_faults pds_faults lists_fit the_points_bad
-accepted-of pds form scale lent values marks found n r e z =
-    let p = passed (own_rows pds form scale lent values marks found n) tt (ap (λ (q : Refusal). q.number) (sym e) ∙ z) in
+accepted-of pds form scale lent values marks found n u e =
+    let p = passed (own_rows pds form scale lent values marks found n) u e in
     let g = p.1.1.1 in
     let a = none_of (pds_faults pds) p.0 in
     let q = none_of (list_faults pds form values marks n) g.1.1.1.0 in

@@ -1,9 +1,10 @@
 -- The rows by the marks alone: they are those of any values as many as the marks, 0 at absent points and below 2^N.
+use Rattle.std.specs.Prelude.{Option}
 use mathlib.Core.Path.{◌≡◌, refl, sym, ap, ap₂, ◌∙◌, subst}
 use mathlib.Core.Bool.{Bool, true, false, not, ◌&&◌, ◌||◌}
 use mathlib.Core.List.{List, [], ◌∷◌, ◌++◌}
 use mathlib.Core.Logic.{⊎_elim}
-use Prim.Native.Nat.{ℕ, zero, suc, ◌-◌, ◌^◌, ◌≤◌, ◌<◌}
+use Prim.Native.Nat.{ℕ, zero, suc, ◌^◌, ◌≤◌, ◌<◌}
 use native.Mathlib.Omega.{arith}
 use borrow.Author.Tests.{lt-leb, lt-ltb, eqb-true, eq-eqb, ne_eqb}
 use lib.Dec.{ltb, leb, eqb}
@@ -15,7 +16,7 @@ use Rattle.bits.proofs.Runs.{lt_or_ge}
 use Rattle.bits.proofs.Fill.{length-tab, get_or-tab}
 use Rattle.bits.proofs.Below.{any_ext}
 use Rattle.marks.specs.Marks.{the_all_present}
-use Rattle.rules.specs.declared.{Found.Found, Bitmap.Bitmap, Bitmap.TheVariants.Without, Bitmap.TheVariants.Carried}
+use Rattle.rules.specs.declared.{Bitmap.Bitmap, Bitmap.TheVariants.Without, Bitmap.TheVariants.Carried, Grid.Grid}
 use Rattle.rules.specs.declared.{Bitmap.TheVariants.Stored, Form.Form, Scale.Scale}
 use Rattle.rules.specs.Table.{row, any_of}
 use Rattle.rules.specs.Places.{the_has_grid, the_has_bitmap}
@@ -86,13 +87,13 @@ points-marked gaps bits values marks n z v =
     ∙ sym (any_or (λ i. ltb 1 (mark_of marks i)) (λ i. eqb (mark_of marks i) 0 && not gaps) n)
 
 -- zeros are such values
-pub length-zeros : (long : ℕ) → length (zeros long) ≡ long
-length-zeros long = length-tab (λ _. 0) long
+pub length_zeros : (long : ℕ) → length (zeros long) ≡ long
+length_zeros long = length-tab (λ _. 0) long
 
 zero-at : (long i : ℕ) → value_of (zeros long) i ≡ 0
 zero-at long i = ⊎_elim
     (λ (l : i < long). get_or-tab (λ _. 0) long i 0 l)
-    (λ (g : long ≤ i). get_or-eq_default (zeros long) 0 (subst (λ (x : ℕ). x ≤ i) (sym (length-zeros long)) g))
+    (λ (g : long ≤ i). get_or-eq_default (zeros long) 0 (subst (λ (x : ℕ). x ≤ i) (sym (length_zeros long)) g))
     (lt_or_ge i long)
 
 zero-lt : (bits long i : ℕ) → value_of (zeros long) i < 2 ^ bits
@@ -124,12 +125,12 @@ lists-alike pds form values us marks n e p =
     ∷ differ (the_has_grid pds 0) (the_grid_given form.grid) ∷ differ (the_has_bitmap pds 0) (the_bitmap_given form.bitmap) ∷ []) e
     p
 
-pub rows-marked : (pds : List ℕ) (form : Form) (scale : Scale) (lent : Lent) (values marks : List ℕ) (found : Found) (n long : ℕ)
+pub rows-marked : (pds : List ℕ) (form : Form) (scale : Scale) (lent : Lent) (values marks : List ℕ) (found : Option Grid) (n long : ℕ)
     → Listed values marks form.packing.bits → long ≡ length values
     → mark_rows pds form scale lent long marks found n ≡ own_rows pds form scale lent values marks found n
 unfolding mark_rows own_rows early_rows middle_rows
 rows-marked pds form scale lent values marks found n long p e =
-    let l : length (zeros long) ≡ length values = length-zeros long ∙ e in
+    let l : length (zeros long) ≡ length values = length_zeros long ∙ e in
     let gaps = the_bitmap_given form.bitmap in
     let bits = form.packing.bits in
     let t = any_marked gaps bits (zeros long) marks n (λ i _. zero-at long i) (zero-lt bits long) ∙ sym (any_marked gaps bits values marks n p.away p.value) in

@@ -1,6 +1,6 @@
 -- The writer's table in groups that code judges one after another, each over what it uses.
-use Rattle.std.specs.Prelude.{ℕ, Bool, not, ◌&&◌, ◌||◌, List, [], ◌∷◌, ◌++◌, ◌≡◌, ltb, eqb, length}
-use Rattle.rules.specs.declared.{Form.Form, Found.Found, Packing.Packing, Scale.Scale}
+use Rattle.std.specs.Prelude.{ℕ, Bool, not, ◌&&◌, ◌||◌, List, [], ◌∷◌, ◌++◌, ◌≡◌, ltb, eqb, length, Option}
+use Rattle.rules.specs.declared.{Form.Form, Packing.Packing, Scale.Scale, Grid.Grid}
 use Rattle.bits.specs.Tables.{tab, any_below}
 use Rattle.rules.specs.Bounds.{exponent_most}
 use Rattle.rules.specs.Numbers.{beyond}
@@ -17,7 +17,7 @@ abbrev pub ForAny : ℕ → (List ℕ → Type 0) → Type 0
 ForAny long P = (values : List ℕ) → length values ≡ long → P values
 
 -- 5, 6, 7 and 9: the PDS, and the grid found
-unfoldable pub front_rows : List ℕ → Found → List Row
+unfoldable pub front_rows : List ℕ → Option Grid → List Row
 front_rows pds found =
     row 5 (any_of (pds_faults pds))
     ∷ row 6 (any_of (time_faults pds 0))
@@ -54,11 +54,11 @@ list_faults pds form values marks n =
     ∷ []
 
 -- 5 to 11
-unfoldable pub early_rows : List ℕ → Form → Scale → Lent → List ℕ → List ℕ → Found → ℕ → List Row
+unfoldable pub early_rows : List ℕ → Form → Scale → Lent → List ℕ → List ℕ → Option Grid → ℕ → List Row
 early_rows pds form scale lent values marks found n = front_rows pds found ++ middle_rows form scale lent values marks n
 
 -- all but 14
-unfoldable pub own_rows : List ℕ → Form → Scale → Lent → List ℕ → List ℕ → Found → ℕ → List Row
+unfoldable pub own_rows : List ℕ → Form → Scale → Lent → List ℕ → List ℕ → Option Grid → ℕ → List Row
 own_rows pds form scale lent values marks found n =
     early_rows pds form scale lent values marks found n ++ (row 13 (any_of (list_faults pds form values marks n)) ∷ [])
 
@@ -71,5 +71,5 @@ unfoldable pub the_marks_off : Bool → List ℕ → ℕ → Bool
 the_marks_off bitmap marks n = any_below (λ i. ltb 1 (mark_of marks i) || (eqb (mark_of marks i) 0 && not bitmap)) n
 
 -- all but 14 by the marks and how many values there are
-unfoldable pub mark_rows : List ℕ → Form → Scale → Lent → ℕ → List ℕ → Found → ℕ → List Row
+unfoldable pub mark_rows : List ℕ → Form → Scale → Lent → ℕ → List ℕ → Option Grid → ℕ → List Row
 mark_rows pds form scale lent long marks found n = own_rows pds form scale lent (zeros long) marks found n

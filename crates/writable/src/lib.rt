@@ -5,7 +5,8 @@ ghost use Rattle.std.specs.Prelude.{◌≡◌, ◌&&◌, eqb, length};
 ghost use Rattle.rules.specs.declared.Bitmap.TheVariants.{Stored};
 ghost use Rattle.rules.specs.Bounds.{exponent_most};
 ghost use Rattle.rules.specs.Numbers.{beyond};
-ghost use Rattle.rules.specs.Table.{any_of, first};
+ghost use Rattle.rules.specs.Table.{any_of};
+ghost use Rattle.rules.specs.Answers.{judged};
 ghost use Rattle.rules.specs.Places.{the_has_grid, the_has_bitmap};
 ghost use Rattle.rules.specs.Bitmap.{the_bitmap_given, marks_long, lent_as};
 ghost use Rattle.rules.specs.Writing.{pds_faults, stored_faults, the_grid_given};
@@ -16,14 +17,14 @@ ghost use Rattle.writable.specs.Rows.{own_rows, ForAny};
 
 mod unlisted; // unlisted.rt: the same by the marks alone, of values in no list
 
-use choices::choose;
+use choices::pick;
 use data_section::packing_bad;
 use grid::{grid_bad, grid_missing, the_grid};
 use marks::{long, stray, unlike};
 use octets::{octet, three};
-use reply::{last, refuse};
+use reply::refuse;
 use rules::bounds::{EXPONENT_MOST, PDS_LEAST, PDS_MOST};
-use rules::{Bitmap, Form, Found, Packing, Refusal, Scale, Signed};
+use rules::{Bitmap, Form, Grid, Packing, Refusal, Scale, Signed};
 use time::time_bad;
 pub use unlisted::judge_marks;
 use unlisted::marks_off;
@@ -39,11 +40,14 @@ pub fn pds_bad(pds: &[u8]) -> bool
 }
 
 // Rows 5, 6, 7 and 9: the PDS, its time, and the grid.
-fn front(pds: &[u8], found: Found) -> Refusal
-    ensures { result ≡ first (front_rows pds.now found) }
+#[tactic(auto, unfolding(rules::specs::Answers::judged, crate::specs::Rows::front_rows))]
+fn front(pds: &[u8], found: Option<Grid>) -> Result<(), Refusal>
+    ensures { result ≡ judged (front_rows pds.now found) }
 {
-    let ground = refuse(7, grid_missing(found), last(9, grid_bad(the_grid(found))));
-    refuse(5, pds_bad(pds), refuse(6, time_bad(pds, 0), ground))
+    refuse(5, pds_bad(pds))?;
+    refuse(6, time_bad(pds, 0))?;
+    refuse(7, grid_missing(found))?;
+    refuse(9, grid_bad(the_grid(found)))
 }
 
 // Whether so many values, and the marks, are those of n points.
@@ -94,6 +98,7 @@ pub fn scale_bad(scale: Scale, packing: Packing) -> bool
 }
 
 // 10 and 11, of values whose list is so long.
+#[tactic(auto, unfolding(rules::specs::Answers::judged, crate::specs::Rows::middle_rows))]
 fn middle(
     form: Form,
     scale: Scale,
@@ -102,19 +107,17 @@ fn middle(
     long: usize,
     marks: &[u8],
     n: u32,
-) -> Refusal
+) -> Result<(), Refusal>
     ensures { ForAny long (λ values. result ≡
-        first (middle_rows form scale (lent_as number store.now) values marks.now n)) }
+        judged (middle_rows form scale (lent_as number store.now) values marks.now n)) }
 {
     let bitmap = form.bitmap;
-    refuse(
-        10,
-        stored_bad(bitmap, number, store, long, marks, n),
-        last(11, scale_bad(scale, form.packing)),
-    )
+    refuse(10, stored_bad(bitmap, number, store, long, marks, n))?;
+    refuse(11, scale_bad(scale, form.packing))
 }
 
 // 5 to 11, of values whose list is so long. No point is looked at before the grid is taken.
+#[tactic(auto, using(reply::proofs::Judged::judged_append), unfolding(crate::specs::Rows::early_rows),)]
 pub(crate) fn judge_early(
     pds: &[u8],
     form: Form,
@@ -123,18 +126,15 @@ pub(crate) fn judge_early(
     store: &[u8],
     long: usize,
     marks: &[u8],
-    found: Found,
+    found: Option<Grid>,
     n: u32,
-) -> Refusal
+) -> Result<(), Refusal>
     ensures { ForAny long (λ values. result ≡
-        first
+        judged
         (early_rows pds.now form scale (lent_as number store.now) values marks.now found
         n)) }
 {
-    let early = front(pds, found);
-    if early.number != 0 {
-        return early;
-    }
+    front(pds, found)?;
     middle(form, scale, number, store, long, marks, n)
 }
 
@@ -172,12 +172,12 @@ pub(crate) fn has_bitmap(pds: &[u8]) -> bool
 }
 
 // Whether a grid is given.
-pub(crate) fn grid_given(grid: Found) -> bool
+pub(crate) fn grid_given(grid: Option<Grid>) -> bool
     ensures { result ≡ the_grid_given grid }
 {
     match grid {
-        Found::Nothing => false,
-        Found::Given(_) => true,
+        None => false,
+        Some(_) => true,
     }
 }
 
@@ -202,13 +202,14 @@ fn lists_bad(pds: &[u8], form: Form, values: &[u32], marks: &[u8], n: u32) -> bo
         let ground = grid_given(grid);
         let gaps = bitmap_given(bitmap);
         return points_bad(gaps, form.packing.bits, values, marks, n)
-            | choose(has_grid(pds), !ground, ground)
-            | choose(has_bitmap(pds), !gaps, gaps);
+            | pick(has_grid(pds), !ground, ground)
+            | pick(has_bitmap(pds), !gaps, gaps);
     }
     true
 }
 
 // All rows but 14, of the grid found and its n points. No value is looked at before N is taken.
+#[tactic(auto, using(reply::proofs::Judged::judged_append), unfolding(rules::specs::Answers::judged, crate::specs::Rows::own_rows),)]
 pub fn judge(
     pds: &[u8],
     form: Form,
@@ -217,15 +218,15 @@ pub fn judge(
     store: &[u8],
     values: &[u32],
     marks: &[u8],
-    found: Found,
+    found: Option<Grid>,
     n: u32,
-) -> Refusal
+) -> Result<(), Refusal>
     ensures { result ≡
-        first
+        judged
         (own_rows pds.now form scale (lent_as number store.now) values.now
         marks.now found n) }
 {
-    let early = judge_early(
+    judge_early(
         pds,
         form,
         scale,
@@ -235,9 +236,6 @@ pub fn judge(
         marks,
         found,
         n,
-    );
-    if early.number != 0 {
-        return early;
-    }
-    last(13, lists_bad(pds, form, values, marks, n))
+    )?;
+    refuse(13, lists_bad(pds, form, values, marks, n))
 }

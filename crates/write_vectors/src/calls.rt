@@ -1,151 +1,81 @@
-// The three calls on a vector's fields and lists: 0 the writer, 1 the check, 2 the packer.
+// The three calls on a vector's fields and lists.
 use crate::back::read_back;
-use crate::fields::{call, decimal, form, lowered, number, scale};
-use crate::output::fill_output;
-use crate::spans::{octets_part, source_part};
-use crate::{POINTS, line};
-use rules::Written;
-
-// The reply and the length; of a message its octets too, and whether those after it, or on a refusal all, are as they
-// were.
-fn tell(rt: &impl Print, w: Written, s: &[u8], out: &[u8]) {
-    line::written(rt, w);
-    if w.refusal.number == 0 {
-        line::sum(rt, s);
-    }
-    line::kept(rt, out, w.len as usize);
-}
+use crate::fields::{Call, asked, decimal, form, lowered, number, scale};
+use crate::{POINTS, Vector, line};
+use vector_io::{fill, first, reply, say};
 
 // The writer, and whether reading gives its parts back.
-fn write(
-    rt: &impl Print,
-    fields: &[u8],
-    pds: &[u8],
-    store: &[u8],
-    values: &[u32],
-    marks: &[u8],
-    out: &mut [u8],
-) {
+fn write(rt: &impl Print, vector: Vector<'_>, out: &mut [u8]) {
     let w = writer::write(
-        pds,
-        form(fields),
-        scale(fields),
-        number(fields),
-        store,
-        values,
-        marks,
+        vector.octets,
+        form(vector.fields),
+        scale(vector.fields),
+        number(vector.fields),
+        vector.store,
+        vector.numbers,
+        vector.marks,
         out,
     );
-    let s = octets_part(out, 0, w.len as usize);
-    tell(rt, w, s, out);
-    if w.refusal.number == 0 {
-        read_back(
-            rt,
-            s,
-            pds,
-            form(fields),
-            scale(fields),
-            number(fields),
-            store,
-            values,
-            marks,
-        );
+    line::written(rt, w, out);
+    if let Ok(len) = w {
+        read_back(rt, first(out, len as usize), vector);
     }
 }
 
-// The check's reply.
-fn check(rt: &impl Print, fields: &[u8], s: &[u8], store: &[u8], numbers: &[i32], marks: &[u8]) {
-    let r = checker::check(s, number(fields), store, numbers, marks, decimal(fields));
-    line::reply(rt, r);
+// The check's reply to a message.
+fn check(rt: &impl Print, s: &[u8], vector: Vector<'_>, source: &[i32]) {
+    let checked = checker::check(
+        s,
+        number(vector.fields),
+        vector.store,
+        source,
+        vector.marks,
+        decimal(vector.fields),
+    );
+    match checked {
+        Ok(()) => say(rt, 0u32),
+        Err(r) => reply(rt, r),
+    }
 }
 
-// Of a packed message E and R, and the check of it against its own source.
-fn tell_packed(
-    rt: &impl Print,
-    fields: &[u8],
-    s: &[u8],
-    store: &[u8],
-    numbers: &[i32],
-    marks: &[u8],
-) {
-    let h = message::header(s, number(fields), store);
-    line::scale(rt, h.scale);
-    check(rt, fields, s, store, numbers, marks);
-}
-
-// The packer, and the check of what it wrote.
-fn pack(
-    rt: &impl Print,
-    fields: &[u8],
-    pds: &[u8],
-    store: &[u8],
-    numbers: &[i32],
-    marks: &[u8],
-    out: &mut [u8],
-) {
+// The packer; of what it wrote E and R, and the check of it against its own source.
+fn pack(rt: &impl Print, vector: Vector<'_>, source: &[i32], out: &mut [u8]) {
     let w = packer::pack(
-        pds,
-        form(fields),
-        number(fields),
-        store,
-        numbers,
-        marks,
-        decimal(fields),
+        vector.octets,
+        form(vector.fields),
+        number(vector.fields),
+        vector.store,
+        source,
+        vector.marks,
+        decimal(vector.fields),
         out,
     );
-    let s = octets_part(out, 0, w.len as usize);
-    tell(rt, w, s, out);
-    if w.refusal.number == 0 {
-        tell_packed(rt, fields, s, store, numbers, marks);
+    line::written(rt, w, out);
+    if let Ok(len) = w {
+        let s = first(out, len as usize);
+        if let Ok(h) = message::header(s, number(vector.fields), vector.store) {
+            line::scale(rt, h.scale);
+        }
+        check(rt, s, vector, source);
     }
 }
 
 // The numbers of a source.
 fn lower(from: &[u32], to: &mut [i32]) {
-    let mut i: usize = 0;
-    while i < from.len() {
-        if i >= to.len() {
-            return;
-        }
-        to[i] = lowered(from[i]);
-        i += 1;
-    }
-}
-
-// The check or the packer.
-fn run_source(
-    rt: &impl Print,
-    fields: &[u8],
-    s: &[u8],
-    store: &[u8],
-    numbers: &[u32],
-    marks: &[u8],
-    out: &mut [u8],
-) {
-    let mut room = [0i32; POINTS];
-    lower(numbers, &mut room);
-    let source = source_part(&room, 0, numbers.len());
-    if call(fields) == 1 {
-        check(rt, fields, s, store, source, marks);
-    } else {
-        pack(rt, fields, s, store, source, marks, out);
+    for (to, from) in to.iter_mut().zip(from) {
+        *to = lowered(*from);
     }
 }
 
 // The call that a vector asks for.
-pub(crate) fn run(
-    rt: &impl Print,
-    fields: &[u8],
-    s: &[u8],
-    store: &[u8],
-    numbers: &[u32],
-    marks: &[u8],
-    out: &mut [u8],
-) {
-    fill_output(out);
-    if call(fields) == 0 {
-        write(rt, fields, s, store, numbers, marks, out);
-    } else {
-        run_source(rt, fields, s, store, numbers, marks, out);
+pub(crate) fn run(rt: &impl Print, vector: Vector<'_>, out: &mut [u8]) {
+    let mut room = [0i32; POINTS];
+    lower(vector.numbers, &mut room);
+    let source = first(&room, vector.numbers.len());
+    fill(out);
+    match asked(vector.fields) {
+        Call::Write => write(rt, vector, out),
+        Call::Check => check(rt, vector.octets, vector, source),
+        Call::Pack => pack(rt, vector, source, out),
     }
 }

@@ -5,9 +5,17 @@
 // 2^31 and how far it is below -1.
 use kinds::geometry_of;
 use octets::{four, octet, plain, two};
-use rules::{Bitmap, Figures, Form, Found, Grid, Packing, Scale, Signed};
+use rules::{Bitmap, Figures, Form, Grid, Packing, Scale, Signed};
+use vector_io::size;
 
 pub(crate) const FIELDS: usize = 83;
+
+// The calls: by octet 1, 0 the writer, 1 the check, any other the packer.
+pub(crate) enum Call {
+    Write,
+    Check,
+    Pack,
+}
 
 // A number with its sign.
 pub(crate) fn lowered(x: u32) -> i32 {
@@ -23,8 +31,12 @@ fn signed(fields: &[u8], k: u8) -> Signed {
 }
 
 // Which call it is.
-pub(crate) fn call(fields: &[u8]) -> u8 {
-    octet(fields, 0, 1)
+pub(crate) fn asked(fields: &[u8]) -> Call {
+    match octet(fields, 0, 1) {
+        0 => Call::Write,
+        1 => Call::Check,
+        _ => Call::Pack,
+    }
 }
 
 // What only its own kind of grid has.
@@ -62,23 +74,17 @@ fn grid(fields: &[u8]) -> Grid {
 }
 
 // The grid, where one is given.
-fn found(fields: &[u8]) -> Found {
-    if octet(fields, 0, 2) == 0 {
-        return Found::Nothing;
-    }
-    Found::Given(grid(fields))
+fn found(fields: &[u8]) -> Option<Grid> {
+    (octet(fields, 0, 2) != 0).then_some(grid(fields))
 }
 
 // The bitmap by its kind.
 fn bitmap(fields: &[u8]) -> Bitmap {
-    let kind = octet(fields, 0, 29);
-    if kind == 0 {
-        return Bitmap::Without;
+    match octet(fields, 0, 29) {
+        0 => Bitmap::Without,
+        1 => Bitmap::Carried,
+        _ => Bitmap::Stored(two(fields, 0, 30)),
     }
-    if kind == 1 {
-        return Bitmap::Carried;
-    }
-    Bitmap::Stored(two(fields, 0, 30))
 }
 
 // Flags and N.
@@ -118,5 +124,5 @@ pub(crate) fn number(fields: &[u8]) -> u16 {
 
 // How many octets are lent for the message.
 pub(crate) fn room(fields: &[u8]) -> usize {
-    octets::three(fields, 0, 48) as usize
+    size(fields, 48)
 }

@@ -11,17 +11,15 @@ mod calls; // calls.rt: the three calls
 mod fields; // fields.rt: a vector's fields
 mod line; // line.rt: what is printed
 mod lists; // lists.rt: a vector's lists
-mod output; // output.rt: what the lent output holds before and after
-mod spans; // spans.rt: parts of lists
 
 use crate::calls::run;
 use crate::fields::{FIELDS, room};
 use crate::lists::{load_numbers, load_octets};
-use crate::spans::{numbers_part, octets_part};
 use program_io::{load, open_read, write_all};
 use std::io::Read;
 use std::rt::Files;
 use std::{env, io};
+use vector_io::{first, next_size, print_name};
 
 // The room of this program's own lists, enough for its vectors: octets of a message, octets of a lent bitmap, points.
 // The codec's bounds are others: where they grow, the stack that this program takes does not.
@@ -31,91 +29,44 @@ const STORE: usize = 8193;
 
 pub(crate) const POINTS: usize = 65537;
 
-// The call with the octets of output from one place up to another lent.
-fn run_room(
-    rt: &impl Print,
-    fields: &[u8],
-    s: &[u8],
-    store: &[u8],
-    numbers: &[u32],
-    marks: &[u8],
-    out: &mut [u8],
-    from: usize,
-    to: usize,
-) {
-    if from <= to {
-        if to <= out.len() {
-            run(rt, fields, s, store, numbers, marks, &mut out[from..to]);
-        }
+// A vector: its fields, and its lists in the order of the file.
+#[derive(Clone, Copy)]
+pub(crate) struct Vector<'a> {
+    pub(crate) fields: &'a [u8],
+    pub(crate) octets: &'a [u8],
+    pub(crate) store: &'a [u8],
+    pub(crate) numbers: &'a [u32],
+    pub(crate) marks: &'a [u8],
+}
+
+// The call with so many octets of output lent as the vector says, where there are so many.
+fn run_output(rt: &impl Print, vector: Vector<'_>) {
+    let mut out = [0u8; MESSAGE];
+    if let Some(lent) = out.get_mut(..room(vector.fields)) {
+        run(rt, vector, lent);
     }
 }
 
-// The vector's name.
-fn print_name(rt: &impl Print, file: &mut impl Read) {
-    let mut length = [0u8; 1];
-    let mut name = [0u8; 255];
-    load(file, &mut length, 0, 1);
-    let n = octets::octet(&length, 0, 1) as usize;
-    load(file, &mut name, 0, n);
-    write_all(rt, octets_part(&name, 0, n));
-}
-
-// Room for the message, and the call.
-fn run_output(
-    rt: &impl Print,
-    fields: &[u8],
-    s: &[u8],
-    store: &[u8],
-    numbers: &[u32],
-    marks: &[u8],
-) {
-    let mut out = [0u8; MESSAGE];
-    run_room(
-        rt,
-        fields,
-        s,
-        store,
-        numbers,
-        marks,
-        &mut out,
-        0,
-        room(fields),
-    );
-}
-
-// The four lists, read one after another, each into room of its own.
-fn run_marks(
-    rt: &impl Print,
-    file: &mut impl Read,
-    fields: &[u8],
-    s: &[u8],
-    store: &[u8],
-    numbers: &[u32],
-) {
-    let mut marks = [0u8; POINTS];
-    let m = load_octets(file, &mut marks);
-    run_output(rt, fields, s, store, numbers, octets_part(&marks, 0, m));
-}
-
-// The numbers, and on.
-fn run_numbers(rt: &impl Print, file: &mut impl Read, fields: &[u8], s: &[u8], store: &[u8]) {
-    let mut numbers = [0u32; POINTS];
-    let n = load_numbers(file, &mut numbers);
-    run_marks(rt, file, fields, s, store, numbers_part(&numbers, 0, n));
-}
-
-// The lent bitmap, and on.
-fn run_store(rt: &impl Print, file: &mut impl Read, fields: &[u8], s: &[u8]) {
-    let mut store = [0u8; STORE];
-    let held = load_octets(file, &mut store);
-    run_numbers(rt, file, fields, s, octets_part(&store, 0, held));
-}
-
-// The octets of the PDS or the message, and on.
+// A vector's lists, read one after another, each into room of its own, and on.
 fn run_lists(rt: &impl Print, file: &mut impl Read, fields: &[u8]) {
-    let mut s = [0u8; MESSAGE];
-    let len = load_octets(file, &mut s);
-    run_store(rt, file, fields, octets_part(&s, 0, len));
+    let mut octets = [0u8; MESSAGE];
+    let mut store = [0u8; STORE];
+    let mut numbers = [0u32; POINTS];
+    let mut marks = [0u8; POINTS];
+    let len = load_octets(file, &mut octets);
+    let held = load_octets(file, &mut store);
+    let n = load_numbers(file, &mut numbers);
+    let m = load_octets(file, &mut marks);
+    run_output(
+        rt,
+        Vector {
+            fields,
+            octets: first(&octets, len),
+            store: first(&store, held),
+            numbers: first(&numbers, n),
+            marks: first(&marks, m),
+        },
+    );
 }
 
 // One vector, a line.
@@ -127,20 +78,10 @@ fn run_vector(rt: &impl Print, file: &mut impl Read) {
     write_all(rt, b"\n");
 }
 
-// How many vectors a file has.
-fn vectors(file: &mut impl Read) -> u32 {
-    let mut head = [0u8; 3];
-    load(file, &mut head, 0, 3);
-    octets::three(&head, 0, 1)
-}
-
 // Every vector of a file.
 fn run_file(rt: &impl Print, file: &mut impl Read) {
-    let count = vectors(file);
-    let mut i: u32 = 0;
-    while i < count {
+    for _ in 0..next_size(file) {
         run_vector(rt, file);
-        i += 1;
     }
 }
 

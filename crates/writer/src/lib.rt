@@ -3,6 +3,7 @@
 #![tactic(auto)]
 
 ghost use Rattle.std.specs.Prelude.{◌≡◌};
+ghost use Rattle.rules.specs.Answers.{length_reply};
 ghost use Rattle.rules.specs.Writing.{write_of, output_after};
 ghost use Rattle.framing.specs.Given.{parts};
 
@@ -13,8 +14,8 @@ use grid::{grid_from, points, the_grid};
 use layout::SEVENS;
 use present_values::put_values;
 use puts::put_four;
-use reply::{unwritten, written};
-use rules::{Form, Scale, Written};
+use reply::refusal;
+use rules::{Form, Refusal, Scale};
 use writable::judge;
 
 // Writes the message of a PDS, a form, E and R, the lent bitmap of a number, and lists of values and marks. Answers its
@@ -28,11 +29,12 @@ pub fn write(
     values: &[u32],
     marks: &[u8],
     out: &mut [u8],
-) -> Written
+) -> Result<u32, Refusal>
     ensures value { result ≡
-        write_of
+        length_reply
+        (write_of
         (parts pds.now form scale number store.now values.now marks.now)
-        out.old }
+        out.old) }
     ensures out_after { out.new ≡
         output_after
         (parts pds.now form scale number store.now values.now marks.now)
@@ -41,14 +43,10 @@ pub fn write(
     let grid = form.grid;
     let found = grid_from(grid, pds, 0);
     let n = points(the_grid(found));
-    let refusal = judge(pds, form, scale, number, store, values, marks, found, n);
-    if refusal.number != 0 {
-        return unwritten(refusal);
-    }
-    let frame = lay(pds, form, scale, marks, n, out);
-    if frame.len == 0 {
-        return written(14, 0);
-    }
+    judge(pds, form, scale, number, store, values, marks, found, n)?;
+    let Some(frame) = lay(pds, form, scale, marks, n, out) else {
+        return Err(refusal(14));
+    };
     let at = frame.at;
     let end = frame.len as usize - 4;
     put_values(
@@ -59,5 +57,5 @@ pub fn write(
         &mut out[at..],
     );
     put_four(out, end, 1, SEVENS);
-    written(0, frame.len)
+    Ok(frame.len)
 }

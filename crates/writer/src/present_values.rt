@@ -5,16 +5,14 @@ ghost use Rattle.rules.specs.Bounds.{the_bits_most};
 ghost use Rattle.rules.specs.Bitmap.{mark_of, value_of};
 ghost use Rattle.rules.specs.Points.{gathered};
 ghost use Rattle.writable.specs.Listed.{Listed};
-ghost use Rattle.blocks.specs.Block.{held_room};
 
-use blocks::{Progress, ROOM, block_of, put_block, put_last};
+use blocks::{BLOCK, Progress, ROOM, put_block, put_last};
 use packs::pack;
 
 // The values at present points, a block of points at a time.
-fn put_points(values: &[u32], marks: &[u8], bits: u8, held: &mut [u32], out: &mut [u8])
+fn put_points(values: &[u32], marks: &[u8], bits: u8, held: &mut [u32; ROOM], out: &mut [u8])
     requires bits_le_bits_most { bits ≤ the_bits_most }
     requires listed { Listed values.now marks.now bits }
-    requires held_len { length held.old ≡ held_room }
     requires bits_in_bounds { count (mark_of marks.now) 0 (length values.now) * bits / 8 + 4 ≤ length out.old }
     ensures { out.new ≡
         packed_into bits
@@ -22,11 +20,8 @@ fn put_points(values: &[u32], marks: &[u8], bits: u8, held: &mut [u32], out: &mu
         out.old }
 {
     let mut progress = Progress { place: 0, held: 0 };
-    let mut i: usize = 0;
-    while i < values.len() {
-        let m = block_of(values.len() - i);
-        progress = put_block(&values[i..i + m], marks, i, bits, held, progress, out);
-        i += m;
+    for (b, block) in values.chunks(BLOCK).enumerate() {
+        progress = put_block(block, marks, b * BLOCK, bits, held, progress, out);
     }
     put_last(held, progress, bits, out);
 }

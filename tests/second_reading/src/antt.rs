@@ -137,8 +137,8 @@ fn grid(grid: &Grid) -> String {
 
 fn found(choice: &Option<Grid>) -> String {
     match choice {
-        None => "Nothing".to_string(),
-        Some(given) => format!("Given ({})", grid(given)),
+        None => "None".to_string(),
+        Some(given) => format!("Some ({})", grid(given)),
     }
 }
 
@@ -222,9 +222,9 @@ fn spot((row, column): (u32, u32)) -> String {
 
 fn under_cursor(there: UnderCursor) -> String {
     match there {
-        UnderCursor::Refused(reply) => format!("Refused ({})", refusal(reply)),
-        UnderCursor::Absent => "Absent".to_string(),
-        UnderCursor::Value(x) => format!("Value {x}"),
+        UnderCursor::Refused(reply) => format!("Err ({})", refusal(reply)),
+        UnderCursor::Absent => "Ok None".to_string(),
+        UnderCursor::Value(x) => format!("Ok (Some {x})"),
     }
 }
 

@@ -1,9 +1,0 @@
--- The bit place is within the width.
-use Rattle.std.proofs.Common.{◌≤◌, ◌-◌}
-use Rattle.bits_beside.proofs.differs.Given as goal
-
-abbrev pub invariant-loop-j : goal.invariant-loop-j
-invariant-loop-j l = l.j ≤ l.n
-
-abbrev pub decreases-loop-j : goal.decreases-loop-j
-decreases-loop-j l = l.n - l.j

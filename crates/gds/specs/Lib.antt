@@ -1,0 +1,2 @@
+-- The kinds of sections as the code tells them.
+pub mod Kinds

@@ -1,0 +1,10 @@
+-- The two cases of a digit.
+use native.Mathlib.Omega.{arith}
+use Rattle.listing.proofs.Digits.{low_digit, high_digit}
+use Rattle.listing.proofs.text.digit.Goals as goal
+
+pub returns-then-d-lt10 : goal.returns-then-d-lt10
+returns-then-d-lt10 c = low_digit _ c.if-d-lt10.true
+
+pub returns-else-d-lt10 : goal.returns-else-d-lt10
+returns-else-d-lt10 c = high_digit _ (omega arith)

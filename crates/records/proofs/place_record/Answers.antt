@@ -1,0 +1,8 @@
+-- By the two cases.
+use Rattle.records.proofs.place_record.Goals as goal
+
+pub returns-in-Some : goal.returns-in-Some
+returns-in-Some c = rw c.in-Some.is
+
+pub returns-in-None : goal.returns-in-None
+returns-in-None c = rw c.in-None.is

@@ -1,0 +1,17 @@
+-- A turn of eight starts at an octet as far into it as the first one did, and takes its values out of one number.
+use mathlib.Core.Path.{◌≡◌}
+use mathlib.Core.List.{◌++◌}
+use Prim.Native.Nat.{◌+◌, ◌*◌}
+use lib.ListN.{drop}
+use Rattle.bits.specs.Bits.{bits_in, runs}
+use Rattle.bits.proofs.Unpack.{Read}
+use Rattle.runs.proofs.unpacking.unpack_eights.Given as goal
+
+abbrev pub invariant-loop-j : goal.invariant-loop-j
+invariant-loop-j l = record {
+  place : l.up + l.j * l.n ≡ l.n * 8;
+  read : Read l.s l.at l.n l.m l.initial.out (l.g * 8) l.out (l.g * 8 + l.j);
+}
+
+abbrev pub invariant-loop-g : goal.invariant-loop-g
+invariant-loop-g l = l.out ≡ runs (bits_in 8 l.s) l.at l.n (l.g * 8) ++ drop (l.g * 8) l.initial.out

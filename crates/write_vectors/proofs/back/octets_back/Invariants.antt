@@ -1,6 +1,0 @@
--- Each octet is looked at once, and both have it.
-use Rattle.std.proofs.Common.{◌-◌, length}
-use Rattle.write_vectors.proofs.back.octets_back.Given as goal
-
-abbrev pub decreases-loop-i : goal.decreases-loop-i
-decreases-loop-i l = length l.a - l.i

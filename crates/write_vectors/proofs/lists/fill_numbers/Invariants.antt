@@ -1,9 +1,0 @@
--- Each turn leaves one place fewer to fill, and the room keeps its length.
-use Rattle.std.proofs.Common.{◌≡◌, length}
-use Rattle.write_vectors.proofs.lists.fill_numbers.Given as goal
-
-abbrev pub invariant-loop-left : goal.invariant-loop-left
-invariant-loop-left l = length l.room ≡ length l.initial.room
-
-abbrev pub decreases-loop-left : goal.decreases-loop-left
-decreases-loop-left l = l.left
