@@ -1,10 +1,10 @@
 // What is printed of an answer, one space before each thing.
 //
-// A refusal: its number; where it tells a section and a place, these; `zeros` where all else is zero; `kept` where the
-// lists are as they were. An acceptance: 0; points, present, Ni, Nj; D, E, R, N, flags; the bitmap's kind; year, month,
-// day, hour, minute; La1, Lo1, resolution flags, La2, Lo2, Di, Dj, scanning flags; of a thinned octant where its counts
-// begin; row and column of the first two points; the sum of values and marks; `kept` where the elements after n are as
-// they were.
+// A refusal: its number; where it tells a section and a place, these; `zeros`, since nothing stands beside it; `kept`
+// where the lists are as they were. An acceptance: 0; points, present, Ni, Nj; D, E, R, N, flags; the bitmap's kind;
+// year, month, day, hour, minute; La1, Lo1, resolution flags, La2, Lo2, Di, Dj, scanning flags; of a thinned octant
+// where its counts begin; row and column of the first two points; the sum of values and marks; `kept` where the
+// elements after n are as they were.
 ghost use Rattle.std.specs.Prelude.{◌≤◌, length};
 
 use chart::{shape_of, spot_of};

@@ -346,30 +346,25 @@ pub fn display_record(answer: Result<Display, Refusal>) -> DisplayRecord
 pub fn written_record(answer: Result<u32, Refusal>) -> WrittenRecord
     ensures { result ≡ the_written_record (length_answer answer) }
 {
-    match answer {
-        Ok(len) => WrittenRecord { reply: 0, len },
-        Err(unwritten) => WrittenRecord {
-            reply: unwritten.number,
-            len: 0,
-        },
-    }
+    let (reply, len) = match answer {
+        Ok(len) => (0, len),
+        Err(r) => (r.number, 0),
+    };
+    WrittenRecord { reply, len }
 }
 
 // The check's yes, or its reply and what it tells.
 pub fn check_record(answer: Result<(), Refusal>) -> CheckRecord
     ensures { result ≡ the_check_record (check_answer answer) }
 {
-    match answer {
-        Ok(_) => CheckRecord {
-            reply: 0,
-            section: 0,
-            place: 0,
-        },
-        Err(fault) => CheckRecord {
-            reply: fault.number,
-            section: fault.section,
-            place: fault.place,
-        },
+    let fault = match answer {
+        Ok(()) => refusal(0),
+        Err(r) => r,
+    };
+    CheckRecord {
+        reply: fault.number,
+        section: fault.section,
+        place: fault.place,
     }
 }
 
@@ -377,19 +372,15 @@ pub fn check_record(answer: Result<(), Refusal>) -> CheckRecord
 pub fn indexed_record(answer: Result<u32, Refusal>) -> IndexedRecord
     ensures { result ≡ the_indexed_record (entries_answer answer) }
 {
-    match answer {
-        Ok(entries) => IndexedRecord {
-            reply: 0,
-            section: 0,
-            place: 0,
-            entries,
-        },
-        Err(unfilled) => IndexedRecord {
-            reply: unfilled.number,
-            section: unfilled.section,
-            place: unfilled.place,
-            entries: 0,
-        },
+    let (unfilled, entries) = match answer {
+        Ok(n) => (refusal(0), n),
+        Err(r) => (r, 0),
+    };
+    IndexedRecord {
+        reply: unfilled.number,
+        section: unfilled.section,
+        place: unfilled.place,
+        entries,
     }
 }
 
