@@ -11,11 +11,14 @@ crates = os.path.join(root, "crates")
 
 # no statement: function, and why
 SYSTEM = "no contract can say what a call of the operating system read or wrote"
+PARTLY = "its contract says what stays and how much is read, and no contract can say which octets the operating system gives"
 PROGRAMS = "it stands above this crate, for the programs alone"
 EXCEPTIONS = {
     ("printer", "print_from"): SYSTEM,
-    **{("program_io", name): SYSTEM for name in ("read_full", "load", "open_read", "write_all", "write_decimal", "write_hex")},
-    **{("vector_io", name): SYSTEM for name in ("next_size", "load_message", "print_name", "say", "hex", "reply")},
+    **{("program_io", name): SYSTEM for name in ("open_read", "write_all", "write_decimal", "write_hex")},
+    **{("program_io", name): PARTLY for name in ("read_full", "load")},
+    **{("vector_io", name): SYSTEM for name in ("next_size", "print_name", "say", "hex", "reply")},
+    ("vector_io", "load_message"): PARTLY,
     **{("vector_io", name): PROGRAMS for name in ("size", "first", "fill", "kept", "added")},
 }
 # a weaker statement: function, what of its reply is fixed, and why not all

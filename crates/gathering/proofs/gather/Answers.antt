@@ -1,4 +1,4 @@
--- A block that fits is gathered (law where_fit), and another leaves the list as it was.
+-- What is gathered is a block that fits (law fits_said).
 use lib.ListN.{length}
 use mathlib.Core.Path.{sym, ◌∙◌}
 use Rattle.gathering.proofs.Here.{fits_said}

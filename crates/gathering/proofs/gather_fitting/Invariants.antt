@@ -1,5 +1,5 @@
--- A turn stores one value at the place reached and moves the place by its mark: the list held is that of one point more
--- (law gather_turn).
+-- A turn stores one value at the place reached and moves the place by its mark: the list held is that of one point
+-- more.
 use Prim.Native.Nat.{◌≤◌}
 use mathlib.Core.Path.{◌≡◌}
 use lib.ListN.{length}
