@@ -1,11 +1,11 @@
 -- What a call on the part of a list from some place on leaves of the whole; and the values held moved to the front.
-use mathlib.Core.Path.{◌≡◌, sym, ap, ◌∙◌}
+use mathlib.Core.Path.{◌≡◌, sym, ap, ap₂, ◌∙◌}
 use mathlib.Core.Bool.{Bool, true, false, cond}
 use mathlib.Core.List.{List, [], ◌++◌, append-nil}
 use Prim.Native.Nat.{ℕ, ◌+◌, ◌-◌, ◌≤◌}
 use native.Mathlib.Omega.{arith}
 use lib.ListN.{length, take, drop, length-append, length-drop, take-append-drop}
-use lib.Seq.{paste, take_all, drop-length}
+use lib.Seq.{take_all, drop-length}
 use Rattle.bits.specs.Bits.{count}
 use Rattle.bits.proofs.Ones.{count-le}
 use Rattle.rules.specs.Bitmap.{value_of}
@@ -86,6 +86,6 @@ length-with values marks at c held =
     ∙ sym (length-append (take c held) (drop c held)) ∙ ap length (take-append-drop c held)
 
 -- the values held after the first 256 moved to the front
-pub moved : (held : List ℕ) → length held ≡ 512 → paste held 0 (drop 256 held) 256 ≡ moved_up held
+pub moved : (held front rest : List ℕ) → front ≡ rest → rest ≡ drop 256 held → front ++ rest ≡ moved_up held
 unfolding moved_up
-moved held l = ap (λ (x : List ℕ). x ++ drop 256 held) (take_all 256 (drop 256 held) (omega (arith, length-drop 256 held)))
+moved held front rest e f = ap₂ (λ (x y : List ℕ). x ++ y) (e ∙ f) f

@@ -54,7 +54,8 @@ fn settle(held: &mut [u32], c: usize, bits: u8, place: usize, out: &mut [u8]) ->
         };
     }
     if put_held(held, BLOCK, bits, place, out) {
-        held.copy_within(BLOCK..ROOM, 0);
+        let (front, rest) = held.split_at_mut(BLOCK);
+        front.copy_from_slice(rest);
         return Progress {
             place: place + bits as usize * 32,
             held: c - BLOCK,

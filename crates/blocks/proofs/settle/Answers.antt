@@ -13,7 +13,7 @@ pub returns-then-put_held : goal.returns-then-put_held
 returns-then-put_held c =
     let a = c.args in let t =
     settle_packed a.bits a.c a.held.now a.place a.out.now (omega arith) _ c.put_held.ensures.value
-    c.if-put_held.true _ _ (c.copy_within.ensures.after ∙ moved a.held.now c.requires.0) c.put_held.ensures.out_after in record { value = t.0; held_after = t.1.0; out_after = t.1.1 }
+    c.if-put_held.true _ _ (moved a.held.now _ _ c.copy_from_slice.ensures.after c.split_at_mut-front.ensures.back) c.put_held.ensures.out_after in record { value = t.0; held_after = t.1.0; out_after = t.1.1 }
 
 pub returns : goal.returns
 returns c =
