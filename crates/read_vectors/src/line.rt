@@ -11,7 +11,7 @@ use chart::{shape_of, spot_of};
 use kinds::figures_of;
 use records::{GridRecord, HeaderRecord, PartRecord, header_record};
 use rules::{Bitmap, Figures, Geometry, Grid, GridPoint, Header, Moment, Refusal, Shape, Start};
-use vector_io::{added, hex, kept, reply, say};
+use vector_io::{Marks, Numbers, added, hex, kept, reply, say};
 
 // The bitmap's kind, and a stored one's number.
 fn kind(rt: &impl Print, bitmap: Bitmap) {
@@ -99,7 +99,7 @@ fn spot(rt: &impl Print, g: Shape, k: u32) {
 
 // `kept` where the elements from n on are as they were.
 fn lists(rt: &impl Print, values: &[u32], marks: &[u8], n: usize) {
-    let same = kept(values, n) && kept(marks, n);
+    let same = kept::<Numbers>(values, n) && kept::<Marks>(marks, n);
     say(rt, if same { "kept" } else { "changed" });
 }
 

@@ -2,7 +2,7 @@
 use crate::back::read_back;
 use crate::fields::{Call, asked, decimal, form, lowered, number, scale};
 use crate::{POINTS, Vector, line};
-use vector_io::{fill, first, reply, say};
+use vector_io::{Octets, fill, first, reply, say};
 
 // The writer, and whether reading gives its parts back.
 fn write(rt: &impl Print, vector: Vector<'_>, out: &mut [u8]) {
@@ -78,7 +78,7 @@ fn with_source<F: FnOnce(&[i32])>(numbers: &[u32], call: F)
 
 // The call that a vector asks for.
 pub(crate) fn run(rt: &impl Print, vector: Vector<'_>, out: &mut [u8]) {
-    fill(out);
+    fill::<Octets>(out);
     match asked(vector.fields) {
         Call::Write => write(rt, vector, out),
         Call::Check => with_source(vector.numbers, |source| {
