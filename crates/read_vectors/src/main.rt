@@ -15,7 +15,7 @@ use program_io::{load, open_read, write_all};
 use std::io::Read;
 use std::rt::Files;
 use std::{env, io};
-use vector_io::{Message, fill, load_message, size};
+use vector_io::{Marks, Message, Numbers, fill, load_message, size};
 
 const HEAD: usize = 20;
 
@@ -30,8 +30,8 @@ const POINTS: usize = 65537;
 // Lists filled, the message read into them, and the line: what the reader answered, and of an accepted message whether
 // writing what was read gives it back.
 fn judge(rt: &impl Print, message: Message<'_>, values: &mut [u32], marks: &mut [u8]) {
-    fill(values);
-    fill(marks);
+    fill::<Numbers>(values);
+    fill::<Marks>(marks);
     let read = field::read(message.octets, message.number, message.store, values, marks);
     answer(rt, read, values, marks);
     if let Ok(h) = read {
