@@ -50,12 +50,12 @@ fn judge_parts(rt: &impl Print, head: &[u8], octets: &[u8], store: &[u8]) {
     let Some(octets) = octets.get(..size(head, 6)) else {
         return;
     };
-    let Some(values) = values.get_mut(..size(head, 15)) else {
+    let (points, marked) = (size(head, 15), size(head, 18));
+    if (POINTS < points) | (POINTS < marked) {
         return;
-    };
-    let Some(marks) = marks.get_mut(..size(head, 18)) else {
-        return;
-    };
+    }
+    let values = &mut values[..points];
+    let marks = &mut marks[..marked];
     judge(
         rt,
         Message {

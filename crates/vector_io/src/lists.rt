@@ -70,10 +70,12 @@ pub fn kept<L: Lent>(s: &[L::Element], n: usize) -> bool
     ensures { IsTrue result
         ↔ ((k : ℕ) → n ≤ k → k < length s.now → HoldsAt (λ y. IsTrue (L.Element.eq y (L.the_before k))) s.now k) }
 {
-    s.iter()
-        .enumerate()
-        .skip(n)
-        .all(|(i, x)| *x == L::before(i))
+    for i in n..s.len() {
+        if s[i] != L::before(i) {
+            return false;
+        }
+    }
+    true
 }
 
 // The first n elements; all of them where they are fewer.
