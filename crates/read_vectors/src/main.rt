@@ -50,6 +50,7 @@ fn judge_parts(rt: &impl Print, head: &[u8], octets: &[u8], store: &[u8]) {
     let Some(octets) = octets.get(..size(head, 6)) else {
         return;
     };
+    // a test rather than get_mut: by it the compiler sees how few places the loops over them have
     let (points, marked) = (size(head, 15), size(head, 18));
     if (POINTS < points) | (POINTS < marked) {
         return;
