@@ -203,7 +203,7 @@ def trace(body):
 
 # What programs read and write by: no contract can say what a call of the operating system read or wrote. docs/CONTRACTS.md names each.
 SYSTEM = {("program_io", name) for name in ("open_read", "write_all", "write_decimal", "write_hex")}
-SYSTEM |= {("vector_io", name) for name in ("next_size", "print_name", "say", "hex", "reply")}
+SYSTEM |= {("vector_io", name) for name in ("print_name", "say", "hex", "reply")}
 
 
 def contracted(body):

@@ -1,8 +1,10 @@
--- The table in the code is the catalogue of the rules, and a search of it is one of the catalogue.
+-- The table in the code is the catalogue of the rules, and a search of it is one of the catalogue; any table searched
+-- from the top, a row at a time.
 use Rattle.std.proofs.Common.{◌≡◌, ℕ, Bool, true, false, cond, ◌||◌, List, [], ◌∷◌, map, drop, refl, ap}
 use Rattle.std.proofs.Common.{Option, Some, option_map, eqb}
 use Rattle.std.specs.List.{find, list_any}
-use Rattle.rules.specs.declared.{Grid.Grid}
+use borrow.Author.Tests.{eq-eqb, ne_eqb}
+use Rattle.rules.specs.declared.{Entry.Entry, Grid.Grid}
 use Rattle.rules.specs.Figures.{the_geometry_by}
 use Rattle.rules.specs.Grid.{rectangles, octants, catalogue, lookup, same_grid, like_one}
 use Rattle.catalogue.specs.declared.Numbers.{Numbers}
@@ -36,3 +38,13 @@ liked (m ∷ ns) g = ap (λ (t : Bool). same_grid g (stands_for m).grid || t) (l
 pub the_octants : map stands_for (drop 7 CATALOGUE) ≡ octants
 unfolding octants the_geometry_by
 the_octants = refl
+
+-- The first row is the answer, or the rows after it decide.
+module _ (es rest : List Entry) (e : Entry) (n : ℕ) (at : es ≡ e ∷ rest) where
+  pub hit : e.number ≡ n → lookup es n ≡ Some e.grid
+  unfolding lookup
+  hit same = rw (at, eq-eqb _ _ same)
+
+  pub miss : (e.number ≡ n → ⊥) → lookup es n ≡ lookup rest n
+  unfolding lookup
+  miss other = rw (at, ne_eqb _ _ other)

@@ -56,12 +56,7 @@ fn first_other(
 
 // Whether a place is refused by 24, and nothing beside is told.
 fn place_off(message: Message<'_>, index: &[u32], row: u32, column: u32) -> bool {
-    under(message, index, Spot { row, column })
-        == Err(Refusal {
-            number: 24,
-            section: 0,
-            place: 0,
-        })
+    under(message, index, Spot { row, column }) == Err(reply::refusal(24))
 }
 
 // The first of the chart's rows after whose last point there is a place that is not refused; how many rows there are

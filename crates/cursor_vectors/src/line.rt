@@ -4,11 +4,12 @@
 // other ones are as they were, on a refusal all; and of a message that is taken the entries. Asking: `under`; its
 // reply, and a section and a place where it tells them; and where it is not refused `absent`, or `value` and the value.
 use rules::Refusal;
-use vector_io::{first, kept, reply, say};
+use vector_io::{Numbers, first, kept, reply, say};
 
 // Whether the entries from n on are as they were.
 fn after(rt: &impl Print, index: &[u32], n: usize) {
-    say(rt, if kept(index, n) { "kept" } else { "changed" });
+    let same = kept::<Numbers>(index, n);
+    say(rt, if same { "kept" } else { "changed" });
 }
 
 // What filling answered, and whether it kept the entries that it did not take; of a message that is taken the entries.

@@ -18,7 +18,7 @@ use rules::Spot;
 use std::io::Read;
 use std::rt::Files;
 use std::{env, io};
-use vector_io::{Message, fill, first, load_message, next_size, print_name, size};
+use vector_io::{Message, Numbers, fill, first, load_message, next_size, print_name, size};
 
 const HEAD: usize = 14;
 
@@ -42,7 +42,7 @@ const OCTETS: usize = 1280;
 fn fill_index(rt: &impl Print, message: Message<'_>, all: bool, n: usize) {
     let mut room = [0u32; ENTRIES];
     if let Some(index) = room.get_mut(..n) {
-        fill(index);
+        fill::<Numbers>(index);
         let r = cursor::fill(message.octets, message.number, message.store, index);
         line::filled(rt, r, index);
         if r.is_ok() && all {

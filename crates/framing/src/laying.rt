@@ -35,7 +35,9 @@ fn copy(s: &[u8], out: &mut [u8], at: usize)
     requires { at + length s.now ≤ length out.old }
     ensures { out.new ≡ placed out.old at s.now }
 {
-    out[at..at + s.len()].copy_from_slice(s);
+    for i in 0..s.len() {
+        out[at + i] = s[i];
+    }
 }
 
 // What stands in a BMS before its bits.

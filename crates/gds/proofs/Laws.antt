@@ -1,4 +1,4 @@
--- The counts of a section beside an octant's, from each row on.
+-- The counts of a section beside an octant's, from each row on; the kind that is the first to be admitted.
 use Prim.Native.Nat.{ℕ, suc, ◌+◌, ◌-◌, ◌*◌, ◌<◌}
 use mathlib.Core.Bool.{Bool, true, false, ◌&&◌}
 use mathlib.Core.Path.{◌≡◌, refl, sym, ◌∙◌, ap}
@@ -9,12 +9,12 @@ use lib.Dec.{eqb}
 use lib.ListN.{length, get_or, drop}
 use lib.Seq.{drop-length}
 use Rattle.bits.specs.Bits.{bits_in, run}
-use Rattle.rules.specs.declared.{Start.TheVariants.Equator, Start.TheVariants.Pole}
+use Rattle.rules.specs.declared.{Part.Part, Start.TheVariants.Equator, Start.TheVariants.Pole, Grid.Grid}
 use Rattle.rules.specs.Bounds.{octant_rows}
 use Rattle.rules.specs.Counts.{the_from_equator, counts_of}
 use Rattle.rules.specs.Columns.{cells_at}
-use Rattle.rules.specs.Layouts.{count_columns}
-use Rattle.rules.specs.Grid.{counts_held, same_counts}
+use Rattle.rules.specs.Layouts.{Kind, latlon, thinned, mercator, lambert, gaussian, polar, kinds, columns, count_columns}
+use Rattle.rules.specs.Grid.{admits, first_kind, kind_at, counts_held, same_counts, grid_of_cells, the_grid_at}
 use Rattle.laws.proofs.Counts.{rows_at}
 
 -- what is held in so many columns from octet k on
@@ -82,3 +82,38 @@ unfolding counts_of the_from_equator
 long_pole = refl
 
 pub ruleset octants_long = (long_equator, long_pole)
+
+-- the grid of the first kind whose test holds, and of the first of all where none does
+module _ (s : List ℕ) (p : Part) where
+  abbrev read : Kind → Grid
+  read k = grid_of_cells k (cells_at (columns k) s p.start)
+
+  read_as : (k : Kind) → first_kind kinds (admits s p) ≡ k → read k ≡ the_grid_at s p
+  unfolding the_grid_at kind_at
+  read_as k h = sym (ap read h)
+
+  pub as_latlon : admits s p latlon ≡ true → read latlon ≡ the_grid_at s p
+  as_latlon a = read_as latlon (rw a)
+
+  module _ (n0 : admits s p latlon ≡ false) where
+    pub as_thinned : admits s p thinned ≡ true → read thinned ≡ the_grid_at s p
+    as_thinned a = read_as thinned (rw (n0, a))
+
+    module _ (n1 : admits s p thinned ≡ false) where
+      pub as_mercator : admits s p mercator ≡ true → read mercator ≡ the_grid_at s p
+      as_mercator a = read_as mercator (rw (n0, n1, a))
+
+      module _ (n2 : admits s p mercator ≡ false) where
+        pub as_lambert : admits s p lambert ≡ true → read lambert ≡ the_grid_at s p
+        as_lambert a = read_as lambert (rw (n0, n1, n2, a))
+
+        module _ (n3 : admits s p lambert ≡ false) where
+          pub as_gaussian : admits s p gaussian ≡ true → read gaussian ≡ the_grid_at s p
+          as_gaussian a = read_as gaussian (rw (n0, n1, n2, n3, a))
+
+          module _ (n4 : admits s p gaussian ≡ false) where
+            pub as_polar : admits s p polar ≡ true → read polar ≡ the_grid_at s p
+            as_polar a = read_as polar (rw (n0, n1, n2, n3, n4, a))
+
+            pub as_none : admits s p polar ≡ false → read latlon ≡ the_grid_at s p
+            as_none a = read_as latlon (rw (n0, n1, n2, n3, n4, a))

@@ -8,7 +8,8 @@ ghost use Rattle.rules.specs.Figures.{the_start_number, start_by, the_geometry_b
 ghost use Rattle.rules.specs.Figures.{the_edges_in, the_plane_in};
 ghost use Rattle.rules.specs.Figures.{the_cylinder_in, the_cone_in, the_belts_in, the_geometry_of};
 
-use rules::{Belts, Cone, Cylinder, Edges, Figures, Geometry, Octant, Plane, Signed, Start};
+use octets::plain;
+use rules::{Belts, Cone, Cylinder, Edges, Figures, Geometry, Octant, Plane, Start};
 
 // The counts from the equator are 1, those from the pole 2, and 3 are counts that no octant has.
 fn start_number(start: Start) -> u8
@@ -46,27 +47,29 @@ pub fn geometry_by(rows: u8, edges: Edges) -> Geometry
     }
 }
 
-// An angle that a kind does not have.
-const NONE: Signed = Signed { value: 0 };
-
 // The figures of which a kind has none.
-const ZEROS: Figures = Figures {
-    kind: 0,
-    rows: 0,
-    la2: NONE,
-    lo2: NONE,
-    di: 0,
-    dj: 0,
-    dx: 0,
-    dy: 0,
-    lov: NONE,
-    latin1: NONE,
-    latin2: NONE,
-    pole_la: NONE,
-    pole_lo: NONE,
-    centre: 0,
-    circles: 0,
-};
+fn zeros() -> Figures
+    ensures { result ≡ figures 0 0 none none 0 0 0 0 none none none none none 0 0 }
+{
+    let none = plain(0);
+    Figures {
+        kind: 0,
+        rows: 0,
+        la2: none,
+        lo2: none,
+        di: 0,
+        dj: 0,
+        dx: 0,
+        dy: 0,
+        lov: none,
+        latin1: none,
+        latin2: none,
+        pole_la: none,
+        pole_lo: none,
+        centre: 0,
+        circles: 0,
+    }
+}
 
 // The figures of a latitude/longitude grid.
 fn edges_figures(rows: u8, x: Edges) -> Figures
@@ -80,7 +83,7 @@ fn edges_figures(rows: u8, x: Edges) -> Figures
         lo2: x.lo2,
         di: x.di,
         dj: x.dj,
-        ..ZEROS
+        ..zeros()
     }
 }
 
@@ -95,7 +98,7 @@ fn cylinder_figures(x: Cylinder) -> Figures
         dx: x.di,
         dy: x.dj,
         latin1: x.latin,
-        ..ZEROS
+        ..zeros()
     }
 }
 
@@ -123,7 +126,7 @@ fn belts_figures(x: Belts) -> Figures
         lo2: x.lo2,
         di: x.di,
         circles: x.circles,
-        ..ZEROS
+        ..zeros()
     }
 }
 
@@ -137,7 +140,7 @@ fn plane_figures(x: Plane) -> Figures
         dx: x.dx,
         dy: x.dy,
         centre: x.centre,
-        ..ZEROS
+        ..zeros()
     }
 }
 

@@ -14,7 +14,7 @@ use Rattle.std.proofs.lemmas.List.{take_at, drop_at, drop-drop, replicate-append
 use Rattle.bits.specs.Bits.{bit_of, bits_in, run, runs, placed}
 use Rattle.bits.specs.Tables.{tab}
 use Rattle.bits.proofs.Runs.{bits_in-bits, bits_at, run-below, lt_or_ge}
-use Rattle.bits.proofs.Fill.{length-tab, get_or-tab, tab_ext}
+use Rattle.bits.proofs.Fill.{length-tab, get_or-tab, tab_ext, fill}
 use Rattle.bits.proofs.Trip.{length_runs, runs_ext}
 use Rattle.bits.proofs.Placed.{run-zero}
 use Rattle.bits.proofs.Placing.{placed-none, length-placed, placed-next, set-placed}
@@ -132,6 +132,15 @@ pub put-short : (marks out : List ℕ) (n k c : ℕ) → length out < k + c
     → (false ≡ leb (k + c) (length out)) × (out ≡ marks_put marks n out k c)
 unfolding marks_put
 put-short marks out n k c h = let t : leb (k + c) (length out) ≡ false = lt-leb (k + c) (length out) h in (sym t, rw t)
+
+-- marks filled: what a loop leaves that begins with i₀ of them put into d
+abbrev pub Marked : (ℕ → ℕ) → List ℕ → ℕ → List ℕ → ℕ → ℕ → Type 0
+Marked f out₀ i₀ out i n = (d : List ℕ) → n ≤ length d → out₀ ≡ tab f i₀ ++ drop i₀ d → out ≡ tab f i ++ drop i d
+
+pub mark_turn : (f : ℕ → ℕ) (out₀ out : List ℕ) (i₀ i n x : ℕ) → i < n → x ≡ f i → Marked f out₀ i₀ out i n
+    → Marked f out₀ i₀ (set out i x) (i + 1) n
+mark_turn f out₀ out i₀ i n x l e m d k z =
+    ap₂ (λ (o : List ℕ) (y : ℕ). set o i y) (m d k z) e ∙ fill f i d (omega arith)
 
 -- the same mark for each point from m on, d of them
 tab_same : (f : ℕ → ℕ) (x m d : ℕ) → ((i : ℕ) → m ≤ i → i < m + d → f i ≡ x) → tab f (m + d) ≡ tab f m ++ replicate d x

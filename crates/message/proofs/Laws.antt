@@ -3,16 +3,34 @@ use Rattle.std.proofs.Common.{◌≡◌, ◌∙◌, refl, sym, ap, ap₂, Bool, 
 use Rattle.std.specs.Prelude.{Result, Ok, Err}
 use Rattle.rules.specs.declared.{Refusal.Refusal, Parsed.Parsed, Header.Header as Said}
 use Rattle.bits.specs.Bits.{count}
-use Rattle.rules.specs.Table.{row, refusal, first, accepted}
+use Rattle.rules.specs.Table.{row, refusal, first_or, first, accepted}
 use Rattle.rules.specs.Answers.{Header, replied, said_by, header_reply, judged}
 use Rattle.rules.specs.Places.{places_of}
 use Rattle.rules.specs.Bitmap.{Lent, in_force, bitmap_octets, present_by}
 use Rattle.rules.specs.Values.{the_length_bad}
 use Rattle.laws.proofs.Judged.{rows_in_groups, own-zero, own-numbered}
+use Rattle.reply.proofs.Stages.{or_append}
 use Rattle.reply.proofs.Judged.{reply_is, then_judged, judged_append, judged-first, answer_after, replied_after}
 use Rattle.rules.specs.Reading.{parsed_of, found_by, in_force_in, present_in, present_count, packing_in, message_table}
 use Rattle.rules.specs.Reading.{refused_by, found_in, own_refusal, answer_by, header_of}
-use Rattle.laws.specs.Groups.{earlier_rows}
+use Rattle.laws.specs.Groups.{layout_rows, grid_rows, data_rows, earlier_rows}
+
+-- the stages of rows 1 to 11
+pub stages : (s : List ℕ) (lent : Lent) (q : Parsed) (none x y r : Refusal) → none ≡ refusal 0
+    → x ≡ first_or (data_rows s lent q.places.bms q.bitmap q.points q.packing) none
+    → y ≡ first_or (grid_rows s q.places q.found) x → r ≡ first_or (layout_rows s) y
+    → r ≡ first (earlier_rows s lent q)
+unfolding first earlier_rows
+stages s lent q none x y r en ex ey er =
+    er ∙ ap (first_or (layout_rows s))
+    (ey ∙ ap (first_or (grid_rows s q.places q.found))
+    (ex ∙ ap (first_or (data_rows s lent q.places.bms q.bitmap q.points q.packing)) en))
+    ∙ ap (first_or (layout_rows s))
+    (sym (or_append (grid_rows s q.places q.found)
+    (data_rows s lent q.places.bms q.bitmap q.points q.packing) (refusal 0)))
+    ∙ sym (or_append (layout_rows s)
+    (grid_rows s q.places q.found ++ data_rows s lent q.places.bms q.bitmap q.points q.packing)
+    (refusal 0))
 
 -- a header that is answered has the message's own refusal
 answered-by : (b : Bool) (r : Refusal) (x : Header) → x.refusal ≡ refusal 0 → (accepted r ≡ true → r ≡ refusal 0)

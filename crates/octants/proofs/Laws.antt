@@ -23,6 +23,10 @@ pub from-pole : (i : ℕ) → i < octant_rows → get_or the_from_equator (octan
 unfolding unlike any_below counts_of the_from_equator
 from-pole i h = is_eq _ _ (none_below unlike octant_rows refl i h)
 
+pub from-equator : (i : ℕ) → get_or the_from_equator i 0 ≡ get_or (counts_of Equator) i 0
+unfolding counts_of
+from-equator i = refl
+
 pub rows_few : (f : Start) → length (counts_of f) ≤ octant_rows
 unfolding counts_of the_from_equator
 rows_few Equator = omega arith

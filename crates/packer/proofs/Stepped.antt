@@ -1,6 +1,7 @@
--- The list of X, point by point, where every point is present, and as the writer's rows judge it.
+-- The list of X, point by point, where every point is present, and as the writer's rows judge it; and the packer's
+-- first rows.
 use Rattle.std.specs.Prelude.{Option, Result}
-use mathlib.Core.Path.{◌≡◌, sym, ap, ◌∙◌, subst}
+use mathlib.Core.Path.{◌≡◌, sym, ap, ap₂, ◌∙◌, subst}
 use mathlib.Core.Bool.{Bool, cond}
 use mathlib.Core.List.{List}
 use mathlib.Core.Logic.{⊎_elim}
@@ -19,16 +20,21 @@ use Rattle.bits.specs.Tables.{tab}
 use Rattle.bits.proofs.Runs.{Bits}
 use Rattle.bits.proofs.Fill.{length-tab, get_or-tab, tab_ext, tab-of}
 use Rattle.bits.proofs.Ones.{count-le}
-use Rattle.rules.specs.declared.{Refusal.Refusal, Form.Form, Scale.Scale, Grid.Grid}
+use Rattle.rules.specs.declared.{Refusal.Refusal, Signed.Signed, Packing.Packing, Form.Form, Scale.Scale, Grid.Grid}
+use Rattle.rules.specs.Numbers.{decimal_at}
+use Rattle.rules.specs.Table.{refusal, any_of, first, first_or}
 use Rattle.rules.specs.Answers.{judged}
 use Rattle.rules.specs.Bitmap.{Lent, mark_of, value_of}
 use Rattle.rules.specs.Points.{gathered}
+use Rattle.rules.specs.Values.{packing_faults}
+use Rattle.rules.specs.Writing.{pds_faults}
+use Rattle.rules.specs.Checking.{source_faults, the_decimal_differs}
 use Rattle.writable.specs.Listed.{Listed}
 use Rattle.writable.specs.Rows.{own_rows, mark_rows}
 use Rattle.writable.proofs.Marked.{rows-marked}
 use Rattle.framing.proofs.Gathered.{gathered-all}
 use Rattle.rules.specs.Packing.{stepped}
-use Rattle.packer.specs.Scaled.{scaled_by, scaled_from}
+use Rattle.packer.specs.Scaled.{scaled_by, scaled_from, pack_rows}
 use Rattle.steps.specs.Steps.{step_of}
 
 -- with as many ones as points each point is one
@@ -105,3 +111,21 @@ as-listed pds form scale lent numbers marks r e p found n x h =
     h ∙ ap judged
     (rows-marked pds form scale lent (scaled_from numbers marks r e) marks found n (length numbers) p
     (sym (length-scaled numbers marks r e)))
+
+-- 5, 18, 15 and 11, one under another
+pub judged-source : (pds : List ℕ) (packing : Packing) (numbers : List ℤ) (marks : List ℕ) (d d' : ℤ) → d' ≡ d
+    → (own : Signed) → own ≡ decimal_at pds 0 → (k : ℤ) → k ≡ own.value
+    → (t15 : Bool) → t15 ≡ the_decimal_differs k d' → (t11 : Bool) → t11 ≡ any_of (packing_faults packing) → (x11 : Refusal)
+    → x11 ≡ cond t11 (refusal 11) (refusal 0)
+    → (x15 : Refusal) → x15 ≡ cond t15 (refusal 15) x11 → (t5 : Bool) → t5 ≡ any_of (pds_faults pds)
+    → (t18 : Bool) → ((d : ℤ) → t18 ≡ any_of (source_faults (record { numbers = numbers; marks = marks; d = d })))
+    → (x18 : Refusal) → x18 ≡ cond t18 (refusal 18) x15
+    → (x : Refusal) → x ≡ cond t5 (refusal 5) x18
+    → x ≡ first (pack_rows pds packing (record { numbers = numbers; marks = marks; d = d }))
+unfolding first first_or pack_rows
+judged-source pds packing numbers marks d d' ed own eo k ek t15 e15 t11 e11 x11 ex11 x15 ex15 t5 e5 t18 e18 x18 ex18 x ex =
+    ex ∙ ap₂ (λ (t : Bool) (y : Refusal). cond t (refusal 5) y) e5
+    (ex18 ∙ ap₂ (λ (t : Bool) (y : Refusal). cond t (refusal 18) y) (e18 d)
+    (ex15 ∙ ap₂ (λ (t : Bool) (y : Refusal). cond t (refusal 15) y)
+    (e15 ∙ ap₂ the_decimal_differs (ek ∙ ap (λ (o : Signed). o.value) eo) ed)
+    (ex11 ∙ ap (λ (t : Bool). cond t (refusal 11) (refusal 0)) e11)))

@@ -1,16 +1,17 @@
 // What is printed of an answer, one space before each thing.
 //
-// A refusal: its number; where it tells a section and a place, these; `zeros`, since nothing stands beside it; `kept`
-// where the lists are as they were. An acceptance: 0; points, present, Ni, Nj; D, E, R, N, flags; the bitmap's kind;
-// year, month, day, hour, minute; La1, Lo1, resolution flags, La2, Lo2, Di, Dj, scanning flags; of a thinned octant
-// where its counts begin; row and column of the first two points; the sum of values and marks; `kept` where the
-// elements after n are as they were.
+// A refusal: its number; where it tells a section and a place, these; `zeros` where all else in C's record of it is
+// zero; `kept` where the lists are as they were. An acceptance: 0; points, present, Ni, Nj; D, E, R, N, flags; the
+// bitmap's kind; year, month, day, hour, minute; La1, Lo1, resolution flags, La2, Lo2, Di, Dj, scanning flags; of a
+// thinned octant where its counts begin; row and column of the first two points; the sum of values and marks; `kept`
+// where the elements after n are as they were.
 ghost use Rattle.std.specs.Prelude.{◌≤◌, length};
 
 use chart::{shape_of, spot_of};
 use kinds::figures_of;
+use records::{GridRecord, HeaderRecord, PartRecord, header_record};
 use rules::{Bitmap, Figures, Geometry, Grid, GridPoint, Header, Moment, Refusal, Shape, Start};
-use vector_io::{added, hex, kept, reply, say};
+use vector_io::{Marks, Numbers, added, hex, kept, reply, say};
 
 // The bitmap's kind, and a stored one's number.
 fn kind(rt: &impl Print, bitmap: Bitmap) {
@@ -98,7 +99,7 @@ fn spot(rt: &impl Print, g: Shape, k: u32) {
 
 // `kept` where the elements from n on are as they were.
 fn lists(rt: &impl Print, values: &[u32], marks: &[u8], n: usize) {
-    let same = kept(values, n) && kept(marks, n);
+    let same = kept::<Numbers>(values, n) && kept::<Marks>(marks, n);
     say(rt, if same { "kept" } else { "changed" });
 }
 
@@ -142,7 +143,61 @@ fn taken(rt: &impl Print, h: Header, values: &[u32], marks: &[u8]) {
     lists(rt, values, marks, n);
 }
 
-// The whole answer: its reply, and what goes with it. Beside a refusal nothing stands: "all counts and fields zero".
+// Whether a part is zeros.
+fn no_part(p: PartRecord) -> bool {
+    p.stored == 0 && p.start == 0 && p.len == 0
+}
+
+// Whether a grid is zeros.
+fn no_grid(g: GridRecord) -> bool {
+    g.la1 == 0
+        && g.lo1 == 0
+        && g.la2 == 0
+        && g.lo2 == 0
+        && g.lov == 0
+        && g.latin1 == 0
+        && g.latin2 == 0
+        && g.pole_la == 0
+        && g.pole_lo == 0
+        && g.dx == 0
+        && g.dy == 0
+        && g.ni == 0
+        && g.nj == 0
+        && g.di == 0
+        && g.dj == 0
+        && g.circles == 0
+        && g.resolution == 0
+        && g.scan == 0
+        && g.rows == 0
+        && g.kind == 0
+        && g.centre == 0
+}
+
+// Whether a time is zeros.
+fn no_time(h: HeaderRecord) -> bool {
+    h.year == 0 && h.month == 0 && h.day == 0 && h.hour == 0 && h.minute == 0
+}
+
+// "all counts and fields zero": all but the reply, the section and the place.
+fn zeros(h: HeaderRecord) -> bool {
+    h.points == 0
+        && h.present == 0
+        && h.d == 0
+        && h.e == 0
+        && h.r == 0
+        && h.bitmap == 0
+        && h.bitmap_number == 0
+        && no_grid(h.grid)
+        && no_part(h.pds)
+        && no_part(h.gds)
+        && no_part(h.bms)
+        && no_part(h.bds)
+        && no_time(h)
+        && h.packing_flags == 0
+        && h.bits == 0
+}
+
+// The whole answer: its reply, and what goes with it.
 pub(crate) fn answer(
     rt: &impl Print,
     answer: Result<Header, Refusal>,
@@ -156,7 +211,9 @@ pub(crate) fn answer(
         }
         Err(r) => {
             reply(rt, r);
-            say(rt, "zeros");
+            if zeros(header_record(answer)) {
+                say(rt, "zeros");
+            }
             lists(rt, values, marks, 0);
         }
     }

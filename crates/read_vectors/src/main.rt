@@ -15,7 +15,7 @@ use program_io::{load, open_read, write_all};
 use std::io::Read;
 use std::rt::Files;
 use std::{env, io};
-use vector_io::{Message, fill, load_message, size};
+use vector_io::{Marks, Message, Numbers, fill, load_message, size};
 
 const HEAD: usize = 20;
 
@@ -30,8 +30,8 @@ const POINTS: usize = 65537;
 // Lists filled, the message read into them, and the line: what the reader answered, and of an accepted message whether
 // writing what was read gives it back.
 fn judge(rt: &impl Print, message: Message<'_>, values: &mut [u32], marks: &mut [u8]) {
-    fill(values);
-    fill(marks);
+    fill::<Numbers>(values);
+    fill::<Marks>(marks);
     let read = field::read(message.octets, message.number, message.store, values, marks);
     answer(rt, read, values, marks);
     if let Ok(h) = read {
@@ -50,12 +50,13 @@ fn judge_parts(rt: &impl Print, head: &[u8], octets: &[u8], store: &[u8]) {
     let Some(octets) = octets.get(..size(head, 6)) else {
         return;
     };
-    let Some(values) = values.get_mut(..size(head, 15)) else {
+    // a test rather than get_mut: by it the compiler sees how few places the loops over them have
+    let (points, marked) = (size(head, 15), size(head, 18));
+    if (POINTS < points) | (POINTS < marked) {
         return;
-    };
-    let Some(marks) = marks.get_mut(..size(head, 18)) else {
-        return;
-    };
+    }
+    let values = &mut values[..points];
+    let marks = &mut marks[..marked];
     judge(
         rt,
         Message {

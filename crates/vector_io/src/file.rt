@@ -1,5 +1,5 @@
 // The parts of a vector in a file. A length stands in three octets.
-ghost use Rattle.std.specs.Prelude.{◌≡◌, ◌-◌, ◌*◌, drop, slice_range};
+ghost use Rattle.std.specs.Prelude.{◌≡◌, ◌<◌, ◌-◌, ◌*◌, ◌^◌, drop, slice_range};
 ghost use Rattle.bits.specs.Bits.{run, bits_in};
 
 use crate::first;
@@ -22,7 +22,9 @@ pub fn size(head: &[u8], k: u8) -> usize
 }
 
 // The length that stands next in a file: of what follows it, or how many follow.
-pub fn next_size(file: &mut impl Read) -> usize {
+pub fn next_size(file: &mut impl Read) -> usize
+    ensures { result < 2 ^ 24 }
+{
     let mut head = [0u8; 3];
     load(file, &mut head, 0, 3);
     size(&head, 1)

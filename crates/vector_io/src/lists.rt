@@ -3,16 +3,29 @@
 ghost use Rattle.std.specs.Prelude.{◌≡◌, ℕ, ◌+◌, ◌*◌, ◌%◌, ◌^◌, ◌<◌, ◌≤◌, ◌↔◌, IsTrue, length, take};
 ghost use Rattle.std.specs.List.{HoldsAt};
 
-// An element of such a list.
-pub trait Element: Copy + PartialEq {
-    ghost the_before: { ℕ → Self };
+// Such a list, by what its elements hold.
+pub trait Lent {
+    type Element: Copy + PartialEq;
+
+    ghost the_before: { ℕ → Self.Element };
 
     // What stands at place i before a call.
-    fn before(i: usize) -> Self
+    fn before(i: usize) -> Self::Element
         ensures { result ≡ the_before i };
 }
 
-impl Element for u8 {
+// Octets that a message is written into.
+pub struct Octets;
+
+// The marks of a reading.
+pub struct Marks;
+
+// The values of a reading, or an index's entries.
+pub struct Numbers;
+
+impl Lent for Octets {
+    type Element = u8;
+
     ghost the_before = { λ i. 5 + i % 251 };
 
     // Another octet than at the next place, and neither 0 nor 1.
@@ -21,7 +34,20 @@ impl Element for u8 {
     }
 }
 
-impl Element for u32 {
+impl Lent for Marks {
+    type Element = u8;
+
+    ghost the_before = { λ i. 2 + i % 250 };
+
+    // Neither 0 nor 1.
+    fn before(i: usize) -> u8 {
+        2 + (i % 250) as u8
+    }
+}
+
+impl Lent for Numbers {
+    type Element = u32;
+
     ghost the_before = { λ i. 4278190080 + i % 65536 };
 
     // More than any number of 24 bits.
@@ -31,23 +57,25 @@ impl Element for u32 {
 }
 
 // Every element becomes what it holds before a call.
-pub fn fill<T: Element>(s: &mut [T])
-    ensures { (k : ℕ) → k < length s.old → HoldsAt (λ y. y ≡ T.the_before k) s.new k }
+pub fn fill<L: Lent>(s: &mut [L::Element])
+    ensures { (k : ℕ) → k < length s.old → HoldsAt (λ y. y ≡ L.the_before k) s.new k }
 {
     for i in 0..s.len() {
-        s[i] = T::before(i);
+        s[i] = L::before(i);
     }
 }
 
 // Whether the elements from place n on are as they were.
-pub fn kept<T: Element>(s: &[T], n: usize) -> bool
+pub fn kept<L: Lent>(s: &[L::Element], n: usize) -> bool
     ensures { IsTrue result
-        ↔ ((k : ℕ) → n ≤ k → k < length s.now → HoldsAt (λ y. IsTrue (T.eq y (T.the_before k))) s.now k) }
+        ↔ ((k : ℕ) → n ≤ k → k < length s.now → HoldsAt (λ y. IsTrue (L.Element.eq y (L.the_before k))) s.now k) }
 {
-    s.iter()
-        .enumerate()
-        .skip(n)
-        .all(|(i, x)| *x == T::before(i))
+    for i in n..s.len() {
+        if s[i] != L::before(i) {
+            return false;
+        }
+    }
+    true
 }
 
 // The first n elements; all of them where they are fewer.

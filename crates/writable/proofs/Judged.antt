@@ -1,8 +1,9 @@
 -- The rows of the writer's table as code judges them: tests over the points one by one, and tests that an earlier
 -- return settles.
+use Rattle.std.specs.Prelude.{Option}
 use mathlib.Core.Path.{◌≡◌, refl, sym, ap, ap₂, ◌∙◌}
 use mathlib.Core.Bool.{Bool, true, false, not, cond, ◌&&◌, ◌||◌}
-use mathlib.Core.List.{List}
+use mathlib.Core.List.{List, [], ◌∷◌}
 use Prim.Native.Nat.{ℕ, ◌+◌, ◌*◌}
 use lib.Dec.{ltb, eqb}
 use lib.ListN.{length}
@@ -12,9 +13,9 @@ use Rattle.bits.specs.Tables.{any_below}
 use Rattle.bits.proofs.Below.{any_ext}
 use Rattle.marks.specs.Marks.{marks_differ}
 use native.Mathlib.Nat.{zero-add}
-use Rattle.rules.specs.declared.{Form.Form, Scale.Scale, Packing.Packing}
+use Rattle.rules.specs.declared.{Refusal.Refusal, Grid.Grid, Form.Form, Scale.Scale, Packing.Packing}
 use Rattle.rules.specs.declared.{Bitmap.TheVariants.Stored}
-use Rattle.rules.specs.Table.{any_of, or_all}
+use Rattle.rules.specs.Table.{Row, row, refusal, any_of, or_all, first, first_or}
 use Rattle.rules.specs.Bounds.{exponent_most, the_bits_most}
 use Rattle.rules.specs.Numbers.{beyond}
 use Rattle.rules.specs.Places.{the_has_grid, the_has_bitmap}
@@ -22,7 +23,8 @@ use Rattle.rules.specs.Bitmap.{Lent, lent_faults, the_bitmap_given, mark_of}
 use Rattle.rules.specs.Values.{flags_bad, packing_faults}
 use Rattle.rules.specs.Writing.{lists_fit, stored_faults, the_grid_given}
 use Rattle.bits.proofs.Tests.{both}
-use Rattle.writable.specs.Rows.{exponent_faults, the_points_bad, list_faults}
+use Rattle.reply.proofs.Stages.{stop, go_on}
+use Rattle.writable.specs.Rows.{front_rows, exponent_faults, middle_rows, early_rows, the_points_bad, list_faults, own_rows}
 
 -- 10: the lent bitmap is not the one, whatever its bits are; it is, and its bits decide where the lists are n long
 lent_wrong : (a x y z : Bool) → (x || y) || z ≡ true → true ≡ ((a || x) || y) || z
@@ -120,3 +122,39 @@ module _ (pds : List ℕ) (form : Form) (values marks : List ℕ) (n : ℕ) wher
         → (p || g) || b ≡ any_of (list_faults pds form values marks n)
     unfolding any_of or_all list_faults lists_fit the_points_bad
     lists-read p ep hg g eh e hb b ei i = rw (f, ep, e, i, eh, ei, eg, eb)
+
+-- the stages
+module _ (pds : List ℕ) (form : Form) (scale : Scale) (lent : Lent) (values marks : List ℕ) (found : Option Grid)
+    (n : ℕ) where
+  abbrev early : List Row
+  early = early_rows pds form scale lent values marks found n
+
+  abbrev middle : List Row
+  middle = middle_rows form scale lent values marks n
+
+  module _ (r : Refusal) (e : r ≡ first (front_rows pds found)) where
+    pub early-front : (r.number ≡ 0 → ⊥) → r ≡ first early
+    unfolding first early_rows front_rows
+    early-front z = stop (front_rows pds found) middle (refusal 0) r tt e z
+
+    pub early-middle : r.number ≡ 0 → (q : Refusal) → q ≡ first middle → q ≡ first early
+    unfolding first early_rows front_rows
+    early-middle z q f = go_on (front_rows pds found) middle (refusal 0) r tt e z q f
+
+  abbrev last : List Row
+  last = row 13 (any_of (list_faults pds form values marks n)) ∷ []
+
+  abbrev own : Refusal
+  own = first (own_rows pds form scale lent values marks found n)
+
+  module _ (r : Refusal) (e : r ≡ first early) where
+    pub own-early : (r.number ≡ 0 → ⊥) → r ≡ own
+    unfolding first own_rows early_rows front_rows middle_rows
+    own-early z = stop early last (refusal 0) r tt e z
+
+    pub own-last : r.number ≡ 0 → (t : Bool) → t ≡ any_of (list_faults pds form values marks n) → (x : Refusal)
+        → x ≡ cond t (refusal 13) (refusal 0) → x ≡ own
+    unfolding first first_or own_rows early_rows front_rows middle_rows
+    own-last z t et x ex =
+        go_on early last (refusal 0) r tt e z x
+        (ex ∙ ap (λ (u : Bool). cond u (refusal 13) (refusal 0)) et)

@@ -2,7 +2,7 @@
 use crate::back::read_back;
 use crate::fields::{Call, asked, decimal, form, lowered, number, scale};
 use crate::{POINTS, Vector, line};
-use vector_io::{fill, first, reply, say};
+use vector_io::{Octets, fill, first, reply, say};
 
 // The writer, and whether reading gives its parts back.
 fn write(rt: &impl Print, vector: Vector<'_>, out: &mut [u8]) {
@@ -67,15 +67,23 @@ fn lower(from: &[u32], to: &mut [i32]) {
     }
 }
 
+// A call on the numbers of a source, in room of their own.
+fn with_source<F: FnOnce(&[i32])>(numbers: &[u32], call: F)
+    requires callable { F.IsAlwaysCallable call }
+{
+    let mut room = [0i32; POINTS];
+    lower(numbers, &mut room);
+    call(first(&room, numbers.len()));
+}
+
 // The call that a vector asks for.
 pub(crate) fn run(rt: &impl Print, vector: Vector<'_>, out: &mut [u8]) {
-    let mut room = [0i32; POINTS];
-    lower(vector.numbers, &mut room);
-    let source = first(&room, vector.numbers.len());
-    fill(out);
+    fill::<Octets>(out);
     match asked(vector.fields) {
         Call::Write => write(rt, vector, out),
-        Call::Check => check(rt, vector.octets, vector, source),
-        Call::Pack => pack(rt, vector, source, out),
+        Call::Check => with_source(vector.numbers, |source| {
+            check(rt, vector.octets, vector, source)
+        }),
+        Call::Pack => with_source(vector.numbers, |source| pack(rt, vector, source, out)),
     }
 }

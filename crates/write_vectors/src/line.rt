@@ -5,7 +5,7 @@
 // where reading it gives the parts, values and marks back; of a packed one E, R and the check's reply. The check: its
 // reply. Where a reply tells a section and a place, they stand after it.
 use rules::{Refusal, Scale};
-use vector_io::{added, first, hex, kept, reply, say};
+use vector_io::{Octets, added, first, hex, kept, reply, say};
 
 // E and R.
 pub(crate) fn scale(rt: &impl Print, c: Scale) {
@@ -20,7 +20,8 @@ fn summed(s: &[u8]) -> u32 {
 
 // Whether the octets from n on are as they were.
 fn after(rt: &impl Print, out: &[u8], n: usize) {
-    say(rt, if kept(out, n) { "kept" } else { "changed" });
+    let same = kept::<Octets>(out, n);
+    say(rt, if same { "kept" } else { "changed" });
 }
 
 // The reply and the length; of a message its octets too, and whether those after it, or on a refusal all, are as they
