@@ -7,7 +7,7 @@ import sys
 root = sys.argv[1]
 # What code may name, and in which crates. The values of a data section, and the places of its bits, are the bit reader's (document 02, R-5);
 # the loops below it are timed and tried by themselves too, and writing lays the section down. A signed field is made of a value by
-# octets::plain and a refusal by reply::refusal_at: a literal of either, which is no declaration and no function's answer, stands there.
+# octets::plain and a refusal by reply::refusal_at: a literal of either stands in that crate alone (`struct Signed {` and `-> Signed {` are none).
 ALONE = {
     r"\bruns::(?:\{[^}]*)?\b(?:fetch|unpack)\b": {"bitreader", "bare_loops", "bits_beside"},
     r"\bBDS_HEAD\b": {"rules", "bitreader", "framing"},

@@ -5,7 +5,6 @@
 // bitmap's kind; year, month, day, hour, minute; La1, Lo1, resolution flags, La2, Lo2, Di, Dj, scanning flags; of a
 // thinned octant where its counts begin; row and column of the first two points; the sum of values and marks; `kept`
 // where the elements after n are as they were.
-ghost use Rattle.std.specs.Prelude.{◌≤◌, length};
 
 use chart::{shape_of, spot_of};
 use kinds::figures_of;
