@@ -8,4 +8,4 @@ mod lists; // lists.rt: lent lists before and after a call
 
 pub use file::{Message, load_message, next_size, print_name, size};
 pub use line::{hex, reply, say};
-pub use lists::{Lent, Marks, Numbers, Octets, added, fill, first, kept};
+pub use lists::{Element, Lent, Marks, Numbers, Octets, Own, added, fill, first, kept};
